@@ -1,0 +1,11 @@
+pub mod Syntax
+pub mod Homomorphism
+pub mod Chase
+pub mod Unifier
+pub mod Rewriting
+pub mod Union
+pub mod Numbering
+pub mod Query
+pub mod Rule
+pub mod Names
+pub mod Equality
