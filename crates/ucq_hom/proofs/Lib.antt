@@ -1,0 +1,7 @@
+pub mod Trail
+pub mod Matched
+pub mod Found
+pub mod Ordered
+pub mod Homs
+pub mod Cores
+pub mod Noted

@@ -1,0 +1,81 @@
+//! Levels of variables, and sets of levels. The level of a variable is the place, in the order of a search, of the atom
+//! that bound it; a variable that was bound before the atoms has the level `ATOMS`. A set has a bit for each atom's level.
+ghost use Rattle.std.specs.Prelude.{◌≡◌, ◌<◌, ◌≤◌, ◌↔◌, ℕ, drop, length, Contains, IsSome, IsTrue};
+ghost use Rattle.std.specs.Int.{bit_at};
+ghost use Rattle.ucq_terms.specs.declared.Term.TheVariants.{Variable};
+ghost use Rattle.ucq_terms.specs.declared.TheConstants.{ATOMS, VARIABLES};
+ghost use Rattle.ucq_hom.specs.Space.{image};
+ghost use Rattle.ucq_hom.specs.Levels.{Counts, HasLevelsOf, IsNoted, IsWithin, level_of};
+ghost use Rattle.ucq_hom.specs.Search.{HasLowTerms};
+
+use crate::bindings::Bindings;
+use ucq_terms::{ATOMS, Term};
+
+/// Whether the level is in the set.
+pub fn has_level(set: u128, level: u32) -> bool
+    requires { level < ATOMS }
+    ensures { IsTrue result ↔ (bit_at set level ≡ 1) }
+{
+    set >> level & 1 == 1
+}
+
+/// The levels of both sets.
+pub fn union(a: u128, b: u128) -> u128
+    ensures left { IsWithin a result }
+    ensures right { IsWithin b result }
+{
+    a | b
+}
+
+fn with_level(set: u128, level: u32) -> u128
+    ensures added { Counts result level }
+    ensures kept { IsWithin set result }
+{
+    if level < ATOMS { set | 1 << level } else { set }
+}
+
+fn with_binder(bindings: &Bindings, levels: &[u32], set: u128, term: Term) -> u128
+    requires room { length levels.now ≡ VARIABLES }
+    requires low { (v : ℕ) → term ≡ Variable v → v < VARIABLES }
+    ensures added { (v : ℕ) → term ≡ Variable v → IsSome (image bindings.now.images v) → Counts result (level_of levels.now v) }
+    ensures kept { IsWithin set result }
+{
+    match term {
+        Term::Constant(_) => set,
+        Term::Variable(variable) => match bindings.get(variable) {
+            None => set,
+            Some(_) => with_level(set, levels[variable as usize]),
+        },
+    }
+}
+
+/// The levels of the bound variables among the terms.
+pub fn binders(bindings: &Bindings, levels: &[u32], terms: &[Term]) -> u128
+    requires room { length levels.now ≡ VARIABLES }
+    requires low { HasLowTerms terms.now }
+    ensures { HasLevelsOf bindings.now levels.now result terms.now }
+{
+    let mut set = 0;
+    for i in 0..terms.len() {
+        set = with_binder(bindings, levels, set, terms[i]);
+    }
+    set
+}
+
+fn note(levels: &mut [u32], variables: &[u32], level: u32)
+    requires { (v : ℕ) → Contains variables.now v → v < length levels.old }
+    ensures { IsNoted levels.old levels.new variables.now level }
+{
+    for i in 0..variables.len() {
+        levels[variables[i] as usize] = level;
+    }
+}
+
+/// Gives the variables that were bound since the mark this level.
+pub fn note_since(bindings: &Bindings, mark: usize, levels: &mut [u32], level: u32)
+    requires mark { mark ≤ length bindings.now.trail }
+    requires room { length levels.old ≡ VARIABLES }
+    ensures { IsNoted levels.old levels.new (drop mark bindings.now.trail) level }
+{
+    note(levels, bindings.bound_since(mark), level);
+}

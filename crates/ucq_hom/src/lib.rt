@@ -1,0 +1,21 @@
+//! Search for homomorphisms of queries, and the shrinking of a query to its core.
+//!
+//! A search binds variables to terms, atom by atom, in a space that is made once and has room for every stored query. Next
+//! comes an atom with the most bound terms; a trail frees what a failed image bound. Each failure tells which atoms had a
+//! part in it, and the search goes back to the last of those at once, so that parts of a query that don't meet are not tried
+//! in all their combinations. The worst case stays exponential in the number of atoms.
+#![tactic(auto)]
+
+mod bindings;
+mod levels;
+mod matching;
+mod order;
+mod search;
+mod shrinking;
+mod space;
+
+pub use shrinking::shrink;
+pub use space::{HomSpace, covers, find_without};
+
+#[cfg(test)]
+mod tests;

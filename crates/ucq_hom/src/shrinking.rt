@@ -1,0 +1,35 @@
+//! The shrinking of a query to its core.
+ghost use Rattle.std.specs.Prelude.{◌≡◌, ◌<◌, ◌↔◌, length, remove, true, false};
+ghost use Rattle.ucq_terms.specs.Syntax.{IsSafe};
+ghost use Rattle.ucq_terms.specs.Homomorphism.{IsCoreOf};
+ghost use Rattle.ucq_hom.specs.Space.{IsClear};
+ghost use Rattle.ucq_hom.specs.Parts.{IsPartInOrder, IsTried};
+
+use crate::space::{HomSpace, find_without};
+use ucq_terms::Query;
+
+/// Takes the atom at the place out if the query maps into itself without it.
+fn drop_spare(space: &mut HomSpace, query: &mut Query, place: u32)
+    requires within { place < length query.old.atoms }
+    requires safe { IsSafe query.old }
+    ensures tried { IsTried query.old query.new place }
+    ensures safe { IsSafe query.new }
+{
+    if find_without(space, query, place) {
+        query.remove_atom(place);
+    }
+}
+
+/// Takes atoms out of the query until it is a core. It stays equivalent, with the same answers, and the atoms that are
+/// left keep their order.
+pub fn shrink(space: &mut HomSpace, query: &mut Query)
+    ensures core { IsCoreOf query.old query.new }
+    ensures answers { query.new.answers ≡ query.old.answers }
+    ensures part { IsPartInOrder query.new.atoms query.old.atoms }
+    ensures clear { IsClear space.new }
+{
+    for place in (0..query.atoms().len() as u32).rev() {
+        drop_spare(space, query, place);
+    }
+    space.clear();
+}

@@ -1,0 +1,15 @@
+//! What a program reads and writes through: shelves of files and sinks for bytes, in memory and of the system.
+#![tactic(auto)]
+
+mod files;
+mod memory;
+mod shelves;
+mod streams;
+
+pub use files::{Failed, NoMemoryOutside, Shelf, Sink};
+pub use memory::{MemorySink, ROOM, SureSink};
+pub use shelves::{MemoryShelf, SureShelf};
+pub use streams::{FileShelf, StandardError, StreamSink};
+
+#[cfg(test)]
+mod tests;
