@@ -1,0 +1,13 @@
+pub mod Statement
+pub mod File
+pub mod Machine
+pub mod Names
+pub mod Meaning
+pub mod Input
+pub mod View
+pub mod Ending
+pub mod Parse
+pub mod Gathered
+pub mod Outcome
+pub mod Placing
+pub mod Building

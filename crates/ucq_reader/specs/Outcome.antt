@@ -1,0 +1,75 @@
+-- What the reader answers.
+use Rattle.std.specs.Prelude.{◌≡◌, ℕ, ◌+◌, ◌≤◌, List, [], ◌++◌, map, length, sum_by, Option, Some, None, Ok, Err}
+use Rattle.std.specs.declared.vec.Vec.{Vec}
+use Rattle.std.specs.declared.alloc.Global.{Global}
+use Rattle.ucq_terms.specs.Syntax.{Query}
+use Rattle.ucq_reader.specs.declared.input.Input.{Input}
+use Rattle.ucq_reader.specs.declared.ReadFault.{ReadFault}
+use Rattle.ucq_reader.specs.declared.ReadFault.TheVariants.{Memory}
+use Rattle.ucq_reader.specs.Statement.{Statement, spelling}
+use Rattle.ucq_reader.specs.Meaning.{Meant, Placed, FileRead, parsed, placed_from, file_fault, meant}
+use Rattle.ucq_reader.specs.Input.{InputValue, IsRead, IsNumbered, IsRefused}
+use Rattle.ucq_reader.specs.Gathered.{GatheredValue, IsGathered}
+
+-- want of memory is free; of every other fault this holds
+abbrev pub OrMemory : (ReadFault → Type 0) → ReadFault → Type 0
+OrMemory P Memory = Unit {0}
+OrMemory P fault = P fault
+
+-- ---- statements
+
+-- these statements have been taken
+abbrev pub IsTaken : List Placed → GatheredValue → GatheredValue → Type 0
+IsTaken more old new = (all : List Placed) → IsGathered all old → IsGathered (all ++ more) new
+
+-- at most so many names have come, and so many unknown values
+pub record IsGrown (old new : GatheredValue) (count : ℕ) : Type 0 where
+  pub names : length new.names ≤ length old.names + count
+  pub unknowns : new.unknowns ≤ old.unknowns + count
+
+-- how many words they have
+abbrev pub word_count : List Placed → ℕ
+word_count all = sum_by (λ (p : Placed). length (spelling p.statement)) all
+
+-- ---- files
+
+-- the bytes of the files
+abbrev pub texts : List (Vec ℕ Global) → List (List ℕ)
+texts files = map (λ (f : Vec ℕ Global). f.items) files
+
+-- how many bytes they have
+abbrev pub byte_count : List (List ℕ) → ℕ
+byte_count files = sum_by length files
+
+-- the file is a list of statements of which none is refused, and they have been taken
+pub record IsFileTaken (file : ℕ) (text : List ℕ) (old new : GatheredValue) : Type 0 where
+  pub statements : List Statement
+  pub places : List ℕ
+  pub read : IsRead file text (parsed statements places)
+  pub clear : file_fault file (parsed statements places) ≡ None
+  pub taken : IsTaken (placed_from file 0 places [] statements) old new
+  pub grown : IsGrown old new (length text)
+  pub few : word_count (placed_from file 0 places [] statements) ≤ length text
+
+-- this is the first refusal of the file
+abbrev pub IsFileFault : ℕ → List ℕ → ReadFault → Type 0
+IsFileFault file text fault = (read : FileRead) × IsRead file text read × (file_fault file read ≡ Some fault)
+
+-- ---- the whole
+
+-- the parts, as contracts see them
+abbrev pub input_value : Input → InputValue
+input_value i = record { names = i.names; rules = i.rules.items; query = i.query; facts = i.facts.items }
+
+-- what is gathered has the numbers of what is meant
+abbrev pub IsMeant : Meant → GatheredValue → Type 0
+IsMeant m g = (q : Query) × (g.query ≡ Some q) × IsNumbered m (record { names = g.names; rules = g.rules; query = q; facts = g.facts })
+
+-- why statements, of which none is refused, stand for no input; or that this has been gathered of what they stand for
+abbrev pub IsWhole : List Placed → GatheredValue → Option ReadFault → Type 0
+IsWhole all g (Some fault) = meant all ≡ Err fault
+IsWhole all g None = (m : Meant) × (meant all ≡ Ok m) × IsMeant m g
+
+-- the files are refused so
+abbrev pub IsFault : List (List ℕ) → ReadFault → Type 0
+IsFault files fault = OrMemory (IsRefused files) fault

@@ -1,0 +1,173 @@
+//! From files to the input or the first refusal.
+ghost use Rattle.std.specs.Prelude.{◌≡◌, ◌≤◌, ◌<◌, ◌+◌, ◌-◌, ◌∷◌, ◌^◌, [], ℕ, List, length, IfErr, IfOk, OnOk, None, Some};
+ghost use Rattle.ucq_reader.specs.declared.ReadFault.{ReadFault};
+ghost use Rattle.ucq_reader.specs.Names.{declare as spec_declare};
+ghost use Rattle.ucq_reader.specs.Gathered.{IsGathered};
+ghost use Rattle.ucq_reader.specs.Input.{IsInput};
+ghost use Rattle.ucq_reader.specs.Meaning.{Placed, statement_fault as spec_statement_fault};
+ghost use Rattle.ucq_reader.specs.Outcome.{OrMemory, IsTaken, IsGrown, IsFileTaken, IsFileFault, IsFault, IsWhole, byte_count, input_value, texts};
+ghost use Rattle.ucq_reader.specs.Parse.{IsParsed};
+ghost use Rattle.ucq_reader.specs.Placing.{IsSpelled, placed_view};
+ghost use Rattle.ucq_reader.specs.View.{declared_view, statement_view};
+
+use crate::faults::{Place, statement_fault};
+use crate::gathered::Gathered;
+use crate::input::Input;
+use crate::names::Declaration;
+use crate::parse::{Parsed, parse};
+use crate::syntax::StatementForm;
+use crate::{ReadFault, Whole};
+use std::alloc::{AllocError, Global};
+use ucq_lexer::Token;
+
+/// The most rules, and the most atoms of facts as they are written.
+const RULES: usize = 4096;
+
+const FACTS: usize = 1_048_576;
+
+/// Notes the statement, if it is a prefix line.
+fn declare(declarations: &mut Vec<Declaration>, form: &StatementForm) -> Result<(), AllocError>
+    ensures { OnOk result ((text : List ℕ) → declared_view text declarations.new.items ≡ spec_declare (declared_view text declarations.old.items) (statement_view text form.now)) }
+{
+    if let StatementForm::Prefix { name, iri, .. } = form {
+        declarations.push(Declaration {
+            name: *name,
+            iri: *iri,
+        })?;
+    }
+    Ok(())
+}
+
+/// Takes the statement that these tokens spell, or tells its first refusal.
+fn take_statement(
+    alloc: Global,
+    gathered: &mut Gathered,
+    text: &[u8],
+    declarations: &[Declaration],
+    place: Place,
+    tokens: &[Token],
+    form: &StatementForm,
+) -> Result<(), ReadFault>
+    requires text { length text.now ≤ 2 ^ 26 }
+    requires tokens { length tokens.now ≤ 2 ^ 26 }
+    requires spelled { IsSpelled text.now tokens.now form.now }
+    requires names { length gathered.old.names + length tokens.now < 2 ^ 32 - 1 }
+    requires unknowns { gathered.old.unknowns + length tokens.now < 2 ^ 32 - 1 }
+    ensures clear { OnOk result (spec_statement_fault (placed_view place.file place.number text.now declarations.now tokens.now form.now) ≡ None) }
+    ensures taken { OnOk result (IsTaken (placed_view place.file place.number text.now declarations.now tokens.now form.now ∷ []) gathered.old gathered.new) }
+    ensures grown { OnOk result (IsGrown gathered.old gathered.new (length tokens.now)) }
+    ensures fault { IfErr result (λ f. OrMemory (λ (g : ReadFault). spec_statement_fault (placed_view place.file place.number text.now declarations.now tokens.now form.now) ≡ Some g) f) }
+{
+    if let Some(fault) = statement_fault(text, declarations, place, tokens, form) {
+        return Err(fault);
+    }
+    gathered.add(alloc, text, declarations, place.file, place.number, form)
+}
+
+/// Takes the statements of a file in order, up to the first that is refused.
+fn take_statements(
+    alloc: Global,
+    gathered: &mut Gathered,
+    file: u32,
+    text: &[u8],
+    parsed: &Parsed,
+) -> Result<(), ReadFault>
+    requires text { length text.now ≤ 2 ^ 26 }
+    requires parsed { IsParsed text.now parsed.now }
+    requires names { length gathered.old.names + length text.now < 2 ^ 32 - 1 }
+    requires unknowns { gathered.old.unknowns + length text.now < 2 ^ 32 - 1 }
+    ensures taken { OnOk result (IsFileTaken file text.now gathered.old gathered.new) }
+    ensures fault { IfErr result (λ f. OrMemory (IsFileFault file text.now) f) }
+{
+    let mut declarations = Vec::new(alloc);
+    let mut rest = parsed.tokens.as_slice();
+    for (number, statement) in parsed.statements.iter().enumerate() {
+        let (tokens, after) = rest.split_at(statement.count);
+        let form = &statement.form;
+        let place = Place {
+            file,
+            number: number as u32,
+        };
+        take_statement(
+            alloc,
+            gathered,
+            text,
+            declarations.as_slice(),
+            place,
+            tokens,
+            form,
+        )?;
+        declare(&mut declarations, form)?;
+        rest = after;
+    }
+    Ok(())
+}
+
+/// Takes the statements of a file, or tells its first refusal.
+fn take_file(
+    alloc: Global,
+    gathered: &mut Gathered,
+    file: u32,
+    text: &[u8],
+) -> Result<(), ReadFault>
+    requires text { length text.now ≤ 2 ^ 26 }
+    requires names { length gathered.old.names + length text.now < 2 ^ 32 - 1 }
+    requires unknowns { gathered.old.unknowns + length text.now < 2 ^ 32 - 1 }
+    ensures taken { OnOk result (IsFileTaken file text.now gathered.old gathered.new) }
+    ensures fault { IfErr result (λ f. OrMemory (IsFileFault file text.now) f) }
+{
+    let parsed = parse(alloc, file, text)?;
+    take_statements(alloc, gathered, file, text, &parsed)
+}
+
+/// Why the statements stand for no input, once none of them is refused: there are too many rules or facts, no query, or
+/// more than one.
+fn whole_fault(gathered: &Gathered) -> Option<ReadFault>
+    requires rules { length gathered.now.rules < 2 ^ 32 }
+    requires facts { length gathered.now.facts < 2 ^ 32 }
+    ensures { (all : List Placed) → IsGathered all gathered.now → IsWhole all gathered.now result }
+{
+    let rules = gathered.rule_count();
+    if rules > RULES {
+        return Some(ReadFault::TooMany {
+            which: Whole::Rules,
+            count: rules as u32,
+        });
+    }
+    let facts = gathered.fact_count();
+    if facts > FACTS {
+        return Some(ReadFault::TooMany {
+            which: Whole::Facts,
+            count: facts as u32,
+        });
+    }
+    if !gathered.has_query() {
+        return Some(ReadFault::NoQuery);
+    }
+    match gathered.second() {
+        Some((file, number)) => Some(ReadFault::ManyQueries { file, number }),
+        None => None,
+    }
+}
+
+/// Reads the files in turn as the input that they stand for.
+///
+/// The refusal is the first of the first file that has one: that it is no list of statements, or that of its first
+/// statement that is refused. Only then the rules, the facts and the queries of all files are counted. `Memory` may come
+/// at any place. Linear in the bytes, but that each name with a prefix is looked up among the prefix lines before it.
+pub fn read_files(alloc: Global, files: &[Vec<u8>]) -> Result<Input, ReadFault>
+    requires some { 0 < length files.now }
+    requires few { length files.now ≤ 64 }
+    requires small { byte_count (texts files.now) ≤ 2 ^ 26 }
+    ensures input { IfOk result (λ input. IsInput (texts files.now) (input_value input)) }
+    ensures fault { IfErr result (λ fault. IsFault (texts files.now) fault) }
+{
+    let mut gathered = Gathered::new(alloc)?;
+    for (file, text) in files.iter().enumerate() {
+        take_file(alloc, &mut gathered, file as u32, text.as_slice())?;
+    }
+    match whole_fault(&gathered) {
+        Some(fault) => Err(fault),
+        None => Ok(gathered.into_input()),
+    }
+}
