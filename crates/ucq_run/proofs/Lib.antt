@@ -1,0 +1,4 @@
+mod Told
+mod Outcomes
+mod Exact
+mod Decided

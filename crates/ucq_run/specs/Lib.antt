@@ -1,0 +1,4 @@
+pub mod Texts
+pub mod Faults
+pub mod Reading
+pub mod Run
