@@ -3,5 +3,4 @@ pub mod Matched
 pub mod Found
 pub mod Ordered
 pub mod Homs
-pub mod Cores
 pub mod Noted

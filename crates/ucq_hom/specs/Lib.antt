@@ -1,5 +1,4 @@
 pub mod Space
 pub mod Bindings
 pub mod Search
-pub mod Parts
 pub mod Levels

@@ -1,4 +1,3 @@
-//! Search for homomorphisms of queries, and the shrinking of a query to its core.
 //!
 //! A search binds variables to terms, atom by atom, in a space that is made once and has room for every stored query. Next
 //! comes an atom with the most bound terms; a trail frees what a failed image bound. Each failure tells which atoms had a
@@ -11,10 +10,9 @@ mod levels;
 mod matching;
 mod order;
 mod search;
-mod shrinking;
 mod space;
 
-pub use shrinking::shrink;
+pub use order::order_atoms;
 pub use space::{HomSpace, covers, find_without};
 
 #[cfg(test)]

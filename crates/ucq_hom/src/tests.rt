@@ -1,7 +1,7 @@
 //! What the public calls answer on worked queries.
-ghost use Rattle.std.specs.Prelude.{◌≡◌, ◌<◌, ◌≤◌, ◌^◌, length, IfOk, vec_len};
+ghost use Rattle.std.specs.Prelude.{◌≡◌, ◌≤◌, ◌^◌, length, IfOk, vec_len};
 
-use crate::{HomSpace, covers, find_without, shrink};
+use crate::{HomSpace, covers, find_without};
 use std::alloc::{AllocError, Global};
 use std::process::Abort;
 use std::test::Fail;
@@ -92,7 +92,7 @@ fn covers_where_a_homomorphism_exists(rt: HostRuntime) -> Result<(), Fail> {
 fn images_are_those_of_the_last_search(rt: HostRuntime) -> Result<(), Fail> {
     let mut space = HomSpace::new(rt.alloc())?;
     let from = query(&rt, rt.alloc(), "?A pAB pBa")?;
-    let mut to = query(&rt, rt.alloc(), "?A pAB pBa pAC")?;
+    let to = query(&rt, rt.alloc(), "?A pAB pBa pAC")?;
     assert!(rt; covers(&mut space, &from, &to));
     assert_eq!(rt; space.image_of(0), Some(Term::Variable(0)));
     assert_eq!(rt; space.image_of(1), Some(Term::Variable(1)));
@@ -108,68 +108,5 @@ fn images_are_those_of_the_last_search(rt: HostRuntime) -> Result<(), Fail> {
     assert_eq!(rt; space.image_of(2), None);
     assert!(rt; !find_without(&mut space, &to, 1));
     assert_eq!(rt; space.image_of(0), None);
-
-    shrink(&mut space, &mut to);
-    assert_eq!(rt; to.atoms().len(), 2);
-    assert_eq!(rt; space.image_of(0), None);
-    Ok(())
-}
-
-#[derive(Clone, Copy, Debug)]
-enum Family {
-    Star,
-    PathBetweenConstants,
-    AlternatingCycle,
-    Copies,
-    Grid,
-}
-
-/// The ends of an edge of a family of 32 edges, or of 24 for the grid of 4 by 4.
-fn ends(family: Family, edge: u32) -> (Term, Term)
-    requires { edge < 32 }
-{
-    let (from, to) = match family {
-        Family::Star => (0, edge + 1),
-        Family::PathBetweenConstants if edge == 0 => return (Term::Constant(0), Term::Variable(0)),
-        Family::PathBetweenConstants if edge == 31 => return (
-            Term::Variable(30),
-            Term::Constant(1),
-        ),
-        Family::PathBetweenConstants => (edge - 1, edge),
-        Family::AlternatingCycle if edge % 2 == 0 => (edge, edge + 1),
-        Family::AlternatingCycle => ((edge + 1) % 32, edge),
-        Family::Copies => (2 * edge, 2 * edge + 1),
-        Family::Grid if edge < 12 => (edge / 3 * 4 + edge % 3, edge / 3 * 4 + edge % 3 + 1),
-        Family::Grid => (edge - 12, edge - 8),
-    };
-    (Term::Variable(from), Term::Variable(to))
-}
-
-fn graph(rt: &impl Abort, alloc: Global, family: Family, edges: u32) -> Result<Query, Fail>
-    requires { edges ≤ 32 }
-{
-    let mut atoms = Vec::new(alloc);
-    for edge in 0..edges {
-        let (from, to) = ends(family, edge);
-        let terms = vec![in alloc; from, to]?;
-        atoms.push(Atom::new(0, terms))?;
-    }
-    made(rt, alloc, Vec::new(alloc), atoms)
-}
-
-#[test]
-fn shrinks_families_to_their_cores(rt: HostRuntime) -> Result<(), Fail> {
-    let mut space = HomSpace::new(rt.alloc())?;
-    for (family, edges, core) in [
-        (Family::Star, 32, 1),
-        (Family::PathBetweenConstants, 32, 32),
-        (Family::AlternatingCycle, 32, 1),
-        (Family::Copies, 32, 1),
-        (Family::Grid, 24, 6),
-    ] {
-        let mut query = graph(&rt, rt.alloc(), family, edges)?;
-        shrink(&mut space, &mut query);
-        assert_eq!(rt; query.atoms().len(), core, "{family:?}");
-    }
     Ok(())
 }

@@ -1,20 +1,23 @@
 -- A query from which spare atoms are taken out, from the last place to the first, becomes a core of it.
-use Rattle.std.proofs.Common.{◌≡◌, ◌<◌, ◌≤◌, ◌+◌, ℕ, zero, suc, List, [], ◌∷◌, length, Contains, refl, sym, ap, ◌∙◌, subst, inl, inr, arith}
+use Rattle.std.proofs.Common.{◌≡◌, ◌<◌, ◌≤◌, ◌+◌, ℕ, zero, suc, List, [], ◌∷◌, length, Contains, ◌≢◌, refl, sym, ap, ◌∙◌, subst, inl, inr, arith}
 use Rattle.std.specs.List.{remove}
 use Rattle.std.proofs.lemmas.Bool.{cases_lt, cases_eq}
+use Rattle.std.proofs.lemmas.List.{get_or_default}
+use Rattle.std.proofs.lemmas.List.Elements.{Contains-get_or}
 use Rattle.std.proofs.lemmas.List.Edits.{length-remove, get_or-remove_below, get_or-remove_above}
 use Rattle.ucq_terms.specs.declared.Term.{Term}
 use Rattle.ucq_terms.specs.declared.Term.TheVariants.{Variable}
-use Rattle.ucq_terms.specs.Syntax.{Atom, Query, OccursIn, IsSafe, IsSubset, atom_image, atoms_image, term_image, terms_image}
+use Rattle.ucq_terms.specs.Syntax.{Atom, Query, OccursIn, HasEachOnce, IsSafe, IsSubset, atom_image, atoms_image, term_image, terms_image}
 use Rattle.ucq_terms.specs.Homomorphism.{MapsInto, Covers, IsEquivalent, IsCore, IsCoreOf}
 use Rattle.ucq_terms.specs.Unifier.{atom_at}
 use Rattle.ucq_terms.proofs.Decide.{atom_discrete, dec_contains}
 use Rattle.ucq_terms.proofs.Images.{IsSubset-from_image, IsSubset-image, atom_image-same, terms_image-same, OccursIn-image}
 use Rattle.ucq_terms.proofs.Lists.{Contains-cons_cases, Contains-empty, length-positive, first_element}
 use Rattle.ucq_terms.proofs.Maps.{MapsInto-trans, Covers-refl, Covers-trans}
+use Rattle.ucq_terms.proofs.Pairwise.{AllPairs-at}
 use Rattle.ucq_terms.proofs.Places.{place_of}
 use Rattle.ucq_terms.proofs.Subsets.{IsSubset-contains, IsSubset-from_contains, IsSubset-trans}
-use Rattle.ucq_hom.specs.Parts.{IsPartInOrder, without_atom, CanSpare, IsTried}
+use Rattle.ucq_fold.specs.Parts.{IsPartInOrder, without_atom, CanSpare, IsTried}
 use Rattle.ucq_hom.proofs.Found.{Contains-remove, Contains-from_remove}
 
 -- Parts of lists in order.
@@ -154,7 +157,7 @@ IsShrunk-tried old now next place s (inl (e, c)) = subst (λ (q : Query). IsShru
 IsShrunk-tried old now next place s (inr (e, n)) = subst (λ (q : Query). IsShrunk old q place) (sym e) (IsShrunk-keeps old now place s n)
 
 -- a query of which no atom can be spared is a core
-IsCore-needed : (q : Query) → ((k : ℕ) → k < length q.atoms → CanSpare q k → ⊥) → IsCore q
+pub IsCore-needed : (q : Query) → ((k : ℕ) → k < length q.atoms → CanSpare q k → ⊥) → IsCore q
 IsCore-needed q needed = record {
   no_proper_part = λ part s m. IsSubset-from_contains q.atoms part (λ a i. elim (dec_contains atom_discrete part a) [
     | yes c ↦ c
@@ -175,3 +178,11 @@ IsCoreOf-shrunk old now s = record {
   core = IsCore-needed now (λ k l c. s.needed k (omega arith) l c);
   equivalent = s.equivalent;
 }
+
+-- no atom of a core can be spared
+pub needed_in_core : (q : Query) → IsCore q → HasEachOnce q.atoms → (k : ℕ) → k < length q.atoms → CanSpare q k → ⊥
+needed_in_core q c once k l m =
+    let a = atom_at q.atoms k in
+    let i : Contains (remove q.atoms k) a = IsSubset-contains q.atoms (remove q.atoms k) a (c.no_proper_part (remove q.atoms k) (IsSubset-remove q.atoms k) m) (Contains-get_or q.atoms k _ l) in
+    let (j, n, ne, e) = Contains-from_remove q.atoms k a i in
+    AllPairs-at (λ (x y : Atom). x ≢ y) q.atoms j k a (λ x y d p. d (sym p)) once n l ne (e ∙ get_or_default q.atoms k _ a l)

@@ -3,9 +3,9 @@ ghost use Rattle.std.specs.Prelude.{◌≡◌, ◌<◌, ◌↔◌, length, remov
 ghost use Rattle.ucq_terms.specs.Syntax.{IsSafe};
 ghost use Rattle.ucq_terms.specs.Homomorphism.{IsCoreOf};
 ghost use Rattle.ucq_hom.specs.Space.{IsClear};
-ghost use Rattle.ucq_hom.specs.Parts.{IsPartInOrder, IsTried};
+ghost use Rattle.ucq_fold.specs.Parts.{IsPartInOrder, IsTried};
 
-use crate::space::{HomSpace, find_without};
+use ucq_hom::{HomSpace, find_without};
 use ucq_terms::Query;
 
 /// Takes the atom at the place out if the query maps into itself without it.

@@ -1,7 +1,7 @@
 use Rattle.std.proofs.Common.{◌≡◌, ◌+◌, ◌-◌, ℕ, List, length, sym, subst, arith}
 use Rattle.ucq_terms.specs.Syntax.{Atom}
-use Rattle.ucq_hom.proofs.Cores.{IsShrunk, IsShrunk-start, IsShrunk-tried, IsCoreOf-shrunk}
-use Rattle.ucq_hom.proofs.shrinking.shrink.Goals as goal
+use Rattle.ucq_fold.proofs.Shrunk.{IsShrunk, IsShrunk-start, IsShrunk-tried, IsCoreOf-shrunk}
+use Rattle.ucq_fold.proofs.shrinking.shrink.Goals as goal
 
 pub loop-place-init : goal.loop-place-init
 loop-place-init c = subst (λ (x : List Atom). IsShrunk c.args.query.now c.args.query.now (length x)) (sym c.atoms.ensures.atoms)

@@ -1,0 +1,3 @@
+pub mod Shrunk
+pub mod Renamings
+pub mod Placings

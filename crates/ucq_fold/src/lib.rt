@@ -1,0 +1,15 @@
+//! Cores of queries, and queries that are equal but for the names of their variables.
+#![tactic(auto)]
+
+mod agreement;
+mod cores;
+mod isomorphism;
+mod placing;
+mod shrinking;
+
+pub use cores::is_core;
+pub use isomorphism::isomorphic;
+pub use shrinking::shrink;
+
+#[cfg(test)]
+mod tests;
