@@ -1,0 +1,9 @@
+pub mod Choices
+pub mod Growth
+pub mod Found
+pub mod Prefixes
+pub mod Tables
+pub mod Classed
+pub mod Clashing
+pub mod Searched
+pub mod Connected

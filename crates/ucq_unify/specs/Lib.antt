@@ -1,0 +1,4 @@
+pub mod Pieces
+pub mod Table
+pub mod Classes
+pub mod Search

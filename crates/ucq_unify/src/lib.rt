@@ -1,0 +1,10 @@
+//! Single-piece unifiers of a query with a rule.
+#![tactic(auto)]
+
+mod classes;
+mod search;
+mod table;
+#[cfg(test)]
+mod tests;
+
+pub use search::single_pieces;

@@ -1,0 +1,4 @@
+//! Tests.
+mod generated;
+mod plain;
+mod rows;
