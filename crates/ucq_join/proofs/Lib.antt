@@ -1,0 +1,9 @@
+pub mod Prefixes
+pub mod Numbers
+pub mod Orders
+pub mod Sets
+pub mod Overlaps
+pub mod Labels
+pub mod Tells
+pub mod Steps
+pub mod Given

@@ -1,0 +1,144 @@
+//! The search for the next set of pieces that make an aggregate.
+ghost use Rattle.std.specs.Prelude.{◌≡◌, ◌<◌, ◌≤◌, ◌+◌, ◌++◌, [], ◌∷◌, ◌↔◌, ◌⊎◌, ℕ, List, length, vec_len, IsTrue, IfOk, Contains, Some, None, true, false};
+ghost use Rattle.ucq_terms.specs.Rewriting.{AreApart};
+ghost use Rattle.ucq_join.specs.Table.{size, IsTableOf, IsClassed};
+ghost use Rattle.ucq_join.specs.Walk.{ArePieces, IsJoin, piece_member, links_at, Walk, IsNext, IsLast};
+ghost use Rattle.ucq_join.specs.Search.{has_place, overlap, start_of, IsStart, IsFirstFrom, IsAdvanced};
+
+use crate::classes::{has_clash, link_members, link_piece, piece_at};
+use crate::table::Table;
+use ucq_partition::Partition;
+use ucq_terms::{NoMemory, Piece, Query, Rule};
+
+/// Whether the piece matches the query's atom at the place.
+fn has_place(piece: &Piece, place: u32) -> bool
+    ensures { result ≡ has_place piece.now place }
+{
+    piece.pairs.iter().any(|pair| place == pair.0)
+}
+
+/// Whether the two pieces match an atom of the query together.
+fn overlaps(piece: &Piece, other: &Piece) -> bool
+    ensures { result ≡ overlap piece.now other.now }
+{
+    piece.pairs.iter().any(|pair| has_place(other, pair.0))
+}
+
+/// Whether the piece at the place overlaps no member.
+fn is_apart(pieces: &[Piece], members: &[usize], place: usize) -> bool
+    requires within { (member : ℕ) → Contains members.now member → member < length pieces.now }
+    requires place { place < length pieces.now }
+    ensures { IsTrue result ↔ ((member : ℕ) → Contains members.now member → AreApart (piece_member pieces.now member) (piece_member pieces.now place)) }
+{
+    for i in 0..members.len() {
+        if overlaps(piece_at(pieces, members[i]), &pieces[place]) {
+            return false;
+        }
+    }
+    true
+}
+
+/// Whether the members and the piece at the place, which is above theirs, make an aggregate. If so, the classes are its.
+fn joins(
+    classes: &mut Partition,
+    table: &Table,
+    query: &Query,
+    rule: &Rule,
+    pieces: &[Piece],
+    members: &[usize],
+    place: usize,
+) -> bool
+    requires table { IsTableOf query.now rule.now table.now }
+    requires pieces { ArePieces query.now rule.now pieces.now }
+    requires size { size table.now (length members.now + 1) ≤ length classes.old }
+    requires start { IsStart query.now rule.now pieces.now members.now place }
+    requires place { place < length pieces.now }
+    ensures size { length classes.new ≡ length classes.old }
+    ensures join { result ≡ true → IsJoin query.now rule.now pieces.now (members.now ++ place ∷ []) }
+    ensures none { result ≡ false → IsJoin query.now rule.now pieces.now (members.now ++ place ∷ []) → ⊥ }
+    ensures classed { result ≡ true → IsClassed table.now (length members.now + 1) (links_at query.now rule.now pieces.now (members.now ++ place ∷ [])) classes.new }
+{
+    if !is_apart(pieces, members, place) {
+        return false;
+    }
+    let copy = members.len() as u32;
+    link_members(classes, table, query, rule, pieces, members);
+    link_piece(classes, table, query, rule, copy, &pieces[place]);
+    !has_clash(classes, table, copy + 1)
+}
+
+/// The first piece from `start` on that makes an aggregate with the members. If there is one, the classes are its.
+fn first_joining(
+    classes: &mut Partition,
+    table: &Table,
+    query: &Query,
+    rule: &Rule,
+    pieces: &[Piece],
+    members: &[usize],
+    start: usize,
+) -> Option<usize>
+    requires table { IsTableOf query.now rule.now table.now }
+    requires pieces { ArePieces query.now rule.now pieces.now }
+    requires size { size table.now (length members.now + 1) ≤ length classes.old }
+    requires start { IsStart query.now rule.now pieces.now members.now start }
+    ensures size { length classes.new ≡ length classes.old }
+    ensures first { IsFirstFrom query.now rule.now pieces.now members.now start result }
+    ensures classed { (place : ℕ) → result ≡ Some place → IsClassed table.now (length members.now + 1) (links_at query.now rule.now pieces.now (members.now ++ place ∷ [])) classes.new }
+{
+    for place in start..pieces.len() {
+        if joins(classes, table, query, rule, pieces, members, place) {
+            return Some(place);
+        }
+    }
+    None
+}
+
+/// The place after the last member's, or 0 where there is none.
+fn start_after(members: &[usize], count: usize) -> usize
+    requires { (place : ℕ) → Contains members.now place → place < count }
+    ensures { result ≡ start_of members.now }
+{
+    if members.len() == 0 {
+        return 0;
+    }
+    next_place(members[members.len() - 1], count)
+}
+
+fn next_place(place: usize, count: usize) -> usize
+    requires { place < count }
+    ensures { result ≡ place + 1 }
+{
+    place + 1
+}
+
+/// Takes the members on to the next set, and tells whether there is one. If so, the classes are its.
+pub fn advance(
+    classes: &mut Partition,
+    table: &Table,
+    query: &Query,
+    rule: &Rule,
+    pieces: &[Piece],
+    members: &mut Vec<usize>,
+) -> Result<bool, NoMemory>
+    requires table { IsTableOf query.now rule.now table.now }
+    requires pieces { ArePieces query.now rule.now pieces.now }
+    requires size { size table.now (vec_len members.old + 1) ≤ length classes.old }
+    requires present { (members.old.items ≡ []) ⊎ IsJoin query.now rule.now pieces.now members.old.items }
+    ensures size { length classes.new ≡ length classes.old }
+    ensures advanced { IfOk result (λ found. IsAdvanced (record { query = query.now; rule = rule.now; pieces = pieces.now; present = members.old.items }) members.new.items found) }
+    ensures classed { IfOk result (λ found. found ≡ true → IsClassed table.now (vec_len members.new) (links_at query.now rule.now pieces.now members.new.items) classes.new) }
+    ensures length { IfOk result (λ found. vec_len members.new ≤ vec_len members.old + 1) }
+{
+    let count = pieces.len();
+    let mut start = start_after(members, count);
+    loop {
+        if let Some(place) = first_joining(classes, table, query, rule, pieces, members, start) {
+            members.push(place)?;
+            return Ok(true);
+        }
+        match members.pop() {
+            None => return Ok(false),
+            Some(last) => start = next_place(last, count),
+        }
+    }
+}

@@ -1,0 +1,13 @@
+pub mod Standing
+pub mod Moved
+pub mod Renamed
+pub mod Permuted
+pub mod Chosen
+pub mod Widths
+pub mod Stepped
+pub mod Safe
+pub mod Building
+pub mod Told
+pub mod Ranks
+pub mod Walking
+pub mod Keeping
