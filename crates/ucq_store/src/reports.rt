@@ -1,0 +1,239 @@
+//! Reports on claimed rows.
+ghost use Rattle.std.specs.Prelude.{◌≡◌, ◌<◌, length, true, false, IsTrue, Some, None};
+ghost use Rattle.ucq_hom.specs.Space.{IsClear};
+ghost use Rattle.ucq_store.specs.Store.{depth_of};
+ghost use Rattle.ucq_store.specs.Lawful.{IsLawful};
+ghost use Rattle.ucq_store.specs.Candidates.{plain};
+ghost use Rattle.ucq_store.specs.Reports.{AreFound, HasWideStep, HasPlace, placed_at, placed_in};
+ghost use Rattle.ucq_store.specs.Calls.{AreOffered, DoesTakeAll, IsAbout, DoesDeliver};
+
+use crate::{Published, Store};
+use std::marker::{Model, PhantomData};
+use ucq_hom::HomSpace;
+use ucq_terms::{Problem, Query};
+
+/// A core that a report proposes for a new row.
+#[derive(Drop)]
+pub struct Candidate<'p> {
+    core: Option<Query>,
+    placed: Option<u32>,
+    of: PhantomData<&'p Query>,
+}
+
+impl<'p> Model for Candidate<'p> {
+    ghost use Rattle.ucq_store.specs.Candidates.{Candidate as CandidateValue};
+
+    ghost Value = { CandidateValue };
+
+    ghost view = { λ c. record { core = c.core; placed = c.placed } };
+}
+
+impl<'p> Candidate<'p> {
+    /// The core, without evidence that it is covered.
+    pub fn plain(core: Query) -> Candidate<'p>
+        ensures { result ≡ plain core }
+    {
+        Candidate {
+            core: Some(core),
+            placed: None,
+            of: PhantomData,
+        }
+    }
+}
+
+impl<'p> Candidate<'p> {
+    // Takes the core out.
+    pub(crate) fn take(&mut self) -> Option<Query>
+        ensures core { result ≡ self.old.core }
+        ensures left { self.new ≡ record self.old { core = None } }
+    {
+        self.core.take()
+    }
+
+    // Notes the row at which the core was added.
+    pub(crate) fn place(&mut self, row: u32)
+        ensures { self.new ≡ record self.old { placed = Some row } }
+    {
+        self.placed = Some(row);
+    }
+
+    fn placed(&self) -> Option<u32>
+        ensures { result ≡ self.now.placed }
+    {
+        self.placed
+    }
+}
+
+// The candidates of a whole report. Contracts see the list.
+#[derive(Drop)]
+pub(crate) struct Candidates<'p> {
+    items: Vec<Candidate<'p>>,
+}
+
+impl<'p> Model for Candidates<'p> {
+    ghost use Rattle.std.specs.Prelude.{List};
+    ghost use Rattle.ucq_store.specs.Candidates.{Candidate as CandidateValue};
+
+    ghost Value = { List CandidateValue };
+
+    ghost view = { λ c. c.items.items };
+}
+
+impl<'p> Candidates<'p> {
+    fn placed(&self, place: u32) -> Option<u32>
+        requires { place < length self.now }
+        ensures { result ≡ placed_at self.now place }
+    {
+        self.items[place as usize].placed()
+    }
+
+    fn take_all(&mut self, store: &mut Store<'p>, space: &mut HomSpace, row: u32) -> Option<Query>
+        requires { AreOffered store.old row self.old }
+        ensures does { DoesTakeAll store.old self.old result store.new self.new }
+        ensures clear { IsClear space.old → IsClear space.new }
+    {
+        take_all(store, space, self.items.as_mut_slice(), row)
+    }
+}
+
+// Takes the cores of the candidates, derived from the row, one after another. What it gives back is left over.
+fn take_all<'p>(
+    store: &mut Store<'p>,
+    space: &mut HomSpace,
+    candidates: &mut [Candidate<'p>],
+    row: u32,
+) -> Option<Query>
+    requires { AreOffered store.old row candidates.old }
+    ensures does { DoesTakeAll store.old candidates.old result store.new candidates.new }
+    ensures clear { IsClear space.old → IsClear space.new }
+{
+    for place in 0..candidates.len() {
+        let candidate = &mut candidates[place];
+        if let Some(left) = store.take(space, candidate) {
+            return Some(left);
+        }
+    }
+    None
+}
+
+// What was found for the query of a row.
+#[derive(Drop)]
+pub(crate) enum Found<'p> {
+    Whole { candidates: Candidates<'p> },
+    Wide { rule: u32, count: u32 },
+}
+
+/// What was found for the query of a claimed row: all its rewritings, by their cores, or one that is too wide. Until it is
+/// spent, these facts hold of it. It is spent by a publication that takes it or makes a cut of it.
+#[derive(Drop)]
+pub struct Report<'p> {
+    problem: &'p Problem,
+    query: Query,
+    found: Found<'p>,
+    spent: bool,
+}
+
+impl<'p> Model for Report<'p> {
+    ghost use Rattle.std.specs.Prelude.{◌≡◌, false};
+    ghost use Rattle.ucq_store.specs.Reports.{Report as ReportValue, IsFound};
+
+    ghost Value = { ReportValue };
+
+    ghost view = { λ r. record { problem = r.problem.now; query = r.query; found = r.found; spent = r.spent } };
+
+    ghost invariant = { λ r. r.spent ≡ false → IsFound r.problem.now.rules r.query r.found };
+}
+
+impl<'p> Report<'p> {
+    /// A report on the row of this query. The candidates' cores are cores of one-step rewritings of it, and cover all of these.
+    pub fn whole(problem: &'p Problem, query: Query, candidates: Vec<Candidate<'p>>) -> Report<'p>
+        requires { AreFound problem.now.rules query candidates.items }
+        ensures { result ≡ record { problem = problem.entry.now; query = query; found = Found.Whole candidates.entry.items; spent = false } }
+    {
+        let candidates = Candidates { items: candidates };
+        Report {
+            problem,
+            query,
+            found: Found::Whole { candidates },
+            spent: false,
+        }
+    }
+
+    /// A report on the row of this query, which has with this rule a one-step rewriting of `count` atoms, more than `ATOMS`.
+    pub fn wide(problem: &'p Problem, query: Query, rule: u32, count: u32) -> Report<'p>
+        requires { HasWideStep problem.now.rules query rule count }
+        ensures { result ≡ record { problem = problem.entry.now; query = query; found = Found.Wide rule count; spent = false } }
+    {
+        Report {
+            problem,
+            query,
+            found: Found::Wide { rule, count },
+            spent: false,
+        }
+    }
+
+    /// Whether a publication took the report or made a cut of it.
+    pub fn is_spent(&self) -> bool
+        ensures { result ≡ self.now.spent }
+    {
+        self.spent
+    }
+
+    /// The row at which the last publication added the candidate at the place, of a whole report.
+    pub fn placed(&self, place: u32) -> Option<u32>
+        requires { HasPlace self.now.found place }
+        ensures { result ≡ placed_in self.now.found place }
+    {
+        match &self.found {
+            Found::Whole { candidates } => candidates.placed(place),
+            Found::Wide { rule: _, count: _ } => None,
+        }
+    }
+
+    pub(crate) fn problem(&self) -> &Problem
+        ensures { result.now ≡ self.now.problem }
+    {
+        self.problem
+    }
+
+    pub(crate) fn query(&self) -> &Query
+        ensures { result.now ≡ self.now.query }
+    {
+        &self.query
+    }
+
+    // Gives the store what was found for its row.
+    pub(crate) fn deliver(
+        &mut self,
+        store: &mut Store<'p>,
+        space: &mut HomSpace,
+        row: u32,
+    ) -> Published
+        requires lawful { IsLawful store.old }
+        requires unspent { self.old.spent ≡ false }
+        requires uncut { store.old.cut ≡ None }
+        requires about { IsAbout store.old row self.old }
+        requires level { depth_of store.old row ≡ store.old.level }
+        requires clear { IsClear space.old }
+        ensures does { DoesDeliver store.old row self.old result store.new self.new }
+        ensures clear { IsClear space.new }
+    {
+        self.spent = true;
+        match &mut self.found {
+            Found::Wide { rule, count } => {
+                store.cut_wide(row, *rule, *count);
+                Published::Cut
+            }
+            Found::Whole { candidates } => match candidates.take_all(store, space, row) {
+                Some(left) => {
+                    store.cut_full(left);
+                    Published::Cut
+                }
+                None => {
+                    store.finish(row);
+                    Published::Taken
+                }
+            },
+        }
+    }
+}

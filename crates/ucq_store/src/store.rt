@@ -1,0 +1,324 @@
+//! The store.
+ghost use Rattle.std.specs.Prelude.{◌≡◌, ◌<◌, ◌≤◌, length, MatchOption, IfOk, IsTrue, ◌↔◌, Some, None, false};
+ghost use Rattle.ucq_terms.specs.Homomorphism.{IsCoreOf};
+ghost use Rattle.ucq_terms.specs.Union.{IsExact};
+ghost use Rattle.ucq_hom.specs.Space.{IsClear};
+ghost use Rattle.ucq_antichain.specs.Rows.{row_at, query_at, live_queries};
+ghost use Rattle.ucq_store.specs.Store.{IsRow, IsFinished};
+ghost use Rattle.ucq_store.specs.Store.{query_of as query_in, state_of as state_in, depth_of as depth_in};
+ghost use Rattle.ucq_store.specs.Lawful.{IsLawfulByLevels, IsLeftOver, IsTooWide};
+ghost use Rattle.ucq_store.specs.Changes.{with_state, with_cut, IsExhausted};
+ghost use Rattle.ucq_store.specs.Calls.{IsNew, DoesClaim, DoesRelease, DoesReopen, DoesRaise, IsOffered, DoesTake, IsAbout as IsAboutRow, DoesPublish};
+
+use crate::marks::{
+    does_any_wait, first_open, is_any_in_work, is_claimed_under, open_claimed, push_mark, raise,
+};
+use crate::reports::{Candidate, Report};
+use crate::{Claim, Cut, Mark, Published, Released, RowState};
+use std::alloc::Global;
+use std::marker::Model;
+use ucq_antichain::{Added, Antichain};
+use ucq_fold::shrink;
+use ucq_hom::HomSpace;
+use ucq_terms::{NoMemory, Problem, Query, Union};
+
+/// The rows of a rewriting, at most as many as the budget says. No call but `new` takes memory.
+#[derive(Drop)]
+pub struct Store<'p> {
+    problem: &'p Problem,
+    antichain: Antichain,
+    marks: Vec<Mark>,
+    level: u32,
+    claims: u64,
+    cut: Option<Cut>,
+}
+
+impl<'p> Model for Store<'p> {
+    ghost use Rattle.std.specs.Prelude.{◌≤◌};
+    ghost use Rattle.std.specs.Vec.{vec_capacity};
+    ghost use Rattle.ucq_store.specs.Store.{Store as StoreValue};
+    ghost use Rattle.ucq_store.specs.Lawful.{IsLawfulByLevels};
+
+    ghost Value = { StoreValue };
+
+    ghost view = { λ s. record { problem = s.problem.now; budget = s.antichain.budget; rows = s.antichain.rows; marks = s.marks.items; level = s.level; claims = s.claims; cut = s.cut } };
+
+    ghost invariant = { λ s. IsLawfulByLevels (record { problem = s.problem.now; budget = s.antichain.budget; rows = s.antichain.rows; marks = s.marks.items; level = s.level; claims = s.claims; cut = s.cut }) × (s.antichain.budget ≤ 65536) × (s.antichain.budget ≤ vec_capacity s.marks) };
+}
+
+impl<'p> Store<'p> {
+    /// A store of one row, a core of the problem's query, which is live and open, at level 0. The budget is 1 to 65,536.
+    pub fn new(
+        alloc: Global,
+        space: &mut HomSpace,
+        problem: &'p Problem,
+        budget: u32,
+    ) -> Result<Store<'p>, NoMemory>
+        requires some { 0 < budget }
+        requires small { budget ≤ 65536 }
+        ensures new { IfOk result (λ s. IsNew problem.now budget s) }
+        ensures clear { IsClear space.new }
+    {
+        space.clear();
+        let mut core = problem.query().copy()?;
+        shrink(space, &mut core);
+        let mut antichain = Antichain::new(alloc, budget)?;
+        let _ = antichain.add(space, core);
+        let mut marks = Vec::with_capacity(alloc, budget as usize)?;
+        let mark = Mark {
+            depth: 0,
+            state: RowState::Open,
+        };
+        push_mark(&mut marks, mark);
+        Ok(Store {
+            problem,
+            antichain,
+            marks,
+            level: 0,
+            claims: 0,
+            cut: None,
+        })
+    }
+
+    /// The problem.
+    pub fn problem(&self) -> &Problem
+        ensures { result.now ≡ self.now.problem }
+    {
+        self.problem
+    }
+
+    /// The most rows that there may be.
+    pub fn budget(&self) -> u32
+        ensures budget { result ≡ self.now.budget }
+        ensures small { result ≤ 65536 }
+    {
+        let _ = &self.level;
+        self.antichain.budget()
+    }
+
+    /// How many rows there are, live and dead.
+    pub fn rows(&self) -> u32
+        ensures rows { result ≡ length self.now.rows }
+        ensures lawful { IsLawfulByLevels self.now }
+    {
+        let _ = &self.level;
+        self.antichain.len()
+    }
+
+    /// The level of the rows that are worked on.
+    pub fn level(&self) -> u32
+        ensures { result ≡ self.now.level }
+    {
+        self.level
+    }
+
+    /// How many claims were ever given.
+    pub fn claims(&self) -> u64
+        ensures { result ≡ self.now.claims }
+    {
+        self.claims
+    }
+
+    /// The cut, if the store is cut.
+    pub fn cut(&self) -> Option<&Cut>
+        ensures { MatchOption result (self.now.cut ≡ None) (λ cut. self.now.cut ≡ Some cut.now) }
+    {
+        self.cut.as_ref()
+    }
+
+    /// The query of a row.
+    pub fn query_of(&self, row: u32) -> &Query
+        requires { IsRow self.now row }
+        ensures { result.now ≡ query_in self.now row }
+    {
+        self.antichain.query(row)
+    }
+
+    /// Whether a row is live.
+    pub fn is_live(&self, row: u32) -> bool
+        requires { IsRow self.now row }
+        ensures { result ≡ (row_at self.now.rows row).live }
+    {
+        self.antichain.is_live(row)
+    }
+
+    /// How many rewritings lead to a row from the first one.
+    pub fn depth_of(&self, row: u32) -> u32
+        requires { IsRow self.now row }
+        ensures { result ≡ depth_in self.now row }
+    {
+        self.marks[row as usize].depth
+    }
+
+    /// Where a row's work stands.
+    pub fn state_of(&self, row: u32) -> RowState
+        requires { IsRow self.now row }
+        ensures { result ≡ state_in self.now row }
+    {
+        self.marks[row as usize].state
+    }
+
+    /// Claims the first open row, under the number of claims given before. `None` comes where the store is cut, no row is
+    /// open, or the number is at the last `u64`.
+    pub fn claim(&mut self) -> Option<Claim>
+        ensures { DoesClaim self.old result self.new }
+    {
+        if self.cut.is_some() || self.claims == u64::MAX {
+            return None;
+        }
+        let row = first_open(self.marks.as_slice())?;
+        let number = self.claims;
+        self.marks[row as usize].state = RowState::Claimed { number };
+        self.claims = number + 1;
+        Some(Claim { row, number })
+    }
+
+    /// Gives a claim back: the row is open again, if it is claimed under that number.
+    pub fn release(&mut self, claim: Claim) -> Released
+        ensures { DoesRelease self.old claim result self.new }
+    {
+        let row = claim.row as usize;
+        if row >= self.marks.len() {
+            return Released::Strange { state: None };
+        }
+        let state = self.marks[row].state;
+        if !is_claimed_under(state, claim.number) {
+            return Released::Strange { state: Some(state) };
+        }
+        self.marks[row].state = RowState::Open;
+        Released::Opened
+    }
+
+    /// Makes every claimed row open. Earlier claims are strange from then on.
+    pub fn reopen(&mut self)
+        ensures { DoesReopen self.old self.new }
+    {
+        open_claimed(self.marks.as_mut_slice());
+    }
+
+    /// Takes a report on a claimed row. Its candidates are taken in order: each becomes a waiting row one level deeper, or
+    /// is covered by a live row; and then the row is done. The store is cut if the report is wide, or if a core is covered by
+    /// no live row while the rows number the budget; rows that were added before stay. A cut store, a report on another query
+    /// or problem, and a claim that isn't the row's are refused, in this order. Searches up to two homomorphisms for each
+    /// candidate and live row.
+    pub fn publish(
+        &mut self,
+        space: &mut HomSpace,
+        claim: Claim,
+        report: &mut Report<'p>,
+    ) -> Published
+        requires { report.old.spent ≡ false }
+        ensures does { DoesPublish self.old claim report.old result self.new report.new }
+        ensures clear { IsClear space.new }
+    {
+        space.clear();
+        if self.cut.is_some() {
+            return Published::Cut;
+        }
+        if !self.is_about(claim.row, report) {
+            return Published::Foreign;
+        }
+        let state = self.state_of(claim.row);
+        if !is_claimed_under(state, claim.number) {
+            return Published::Strange { state };
+        }
+        report.deliver(self, space, claim.row)
+    }
+
+    /// Raises the level, where the store isn't cut, no row is open or claimed, and a live row waits. Then live waiting rows
+    /// are open, and dead ones are skipped.
+    pub fn next_level(&mut self) -> bool
+        ensures { DoesRaise self.old result self.new }
+    {
+        if self.cut.is_some()
+            || is_any_in_work(self.marks.as_slice())
+            || !does_any_wait(&self.antichain, self.marks.as_slice())
+        {
+            return false;
+        }
+        raise(&self.antichain, self.marks.as_mut_slice());
+        self.level += 1;
+        true
+    }
+
+    /// Whether the store isn't cut, no row is open or claimed, and no live row waits.
+    pub fn is_finished(&self) -> bool
+        ensures finished { IsTrue result ↔ IsFinished self.now }
+        ensures lawful { IsLawfulByLevels self.now }
+    {
+        if self.cut.is_some() || is_any_in_work(self.marks.as_slice()) {
+            return false;
+        }
+        !does_any_wait(&self.antichain, self.marks.as_slice())
+    }
+
+    /// The queries of the live rows of a finished store, in order.
+    pub fn into_union(self) -> Union
+        requires { IsFinished self }
+        ensures live { result ≡ live_queries self.entry.rows }
+        ensures exact { IsExact self.entry.problem result }
+    {
+        Union::new(self.antichain.into_live())
+    }
+
+    // Whether the row has the report's query, under the report's problem.
+    fn is_about(&self, row: u32, report: &Report<'p>) -> bool
+        ensures { IsTrue result ↔ IsAboutRow self.now row report.now }
+    {
+        row < self.antichain.len()
+            && self.antichain.query(row).same(report.query())
+            && self.problem.same(report.problem())
+    }
+
+    // Takes the core of a candidate. What it gives back is left over.
+    pub(crate) fn take(
+        &mut self,
+        space: &mut HomSpace,
+        candidate: &mut Candidate<'p>,
+    ) -> Option<Query>
+        requires { IsOffered self.old candidate.old }
+        ensures does { DoesTake self.old candidate.old result self.new candidate.new }
+        ensures clear { IsClear space.new }
+    {
+        let core = candidate.take()?;
+        match self.antichain.add(space, core) {
+            Added::Covered { row: _, query: _ } => None,
+            Added::Full { query } => Some(query),
+            Added::Added { row, pruned: _ } => {
+                candidate.place(row);
+                let mark = Mark {
+                    depth: self.level + 1,
+                    state: RowState::Waiting,
+                };
+                push_mark(&mut self.marks, mark);
+                None
+            }
+        }
+    }
+
+    // Notes that the row's rewritings are all covered.
+    pub(crate) fn finish(&mut self, row: u32)
+        requires row { IsRow self.old row }
+        requires level { depth_in self.old row ≡ self.old.level }
+        requires exhausted { IsExhausted self.old row }
+        ensures { self.new ≡ with_state self.old row RowState.Done }
+    {
+        self.marks[row as usize].state = RowState::Done;
+    }
+
+    // Cuts the store at a core for which there is no room.
+    pub(crate) fn cut_full(&mut self, left: Query)
+        requires { IsLeftOver self.old left }
+        ensures { self.new ≡ with_cut self.old (Cut.Rows left) }
+    {
+        self.cut = Some(Cut::Rows { left });
+    }
+
+    // Cuts the store at a row that has a rewriting that is too wide.
+    pub(crate) fn cut_wide(&mut self, row: u32, rule: u32, count: u32)
+        requires { IsTooWide self.old row rule count }
+        ensures { self.new ≡ with_cut self.old (Cut.Wide row rule count) }
+    {
+        self.cut = Some(Cut::Wide { row, rule, count });
+    }
+}
