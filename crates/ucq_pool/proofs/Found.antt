@@ -1,0 +1,78 @@
+-- What is found rule by rule.
+use Rattle.std.proofs.Common.{◌≡◌, ℕ, ◌+◌, ◌<◌, ◌≤◌, List, [], ◌∷◌, ◌++◌, map, length, Any, get_or, sym, ap, ◌∙◌, subst, ⊎_elim, arith}
+use Rattle.std.proofs.lemmas.List.{get_or_read, map-append}
+use Rattle.std.proofs.lemmas.List.Elements.{Contains-append_left, Contains-append_right, All-append}
+use Rattle.std.proofs.lemmas.Bool.{cases_order}
+use Rattle.ucq_terms.specs.Syntax.{Rule, Query}
+use Rattle.ucq_terms.specs.Homomorphism.{Covers}
+use Rattle.ucq_terms.specs.Rewriting.{rule_at, IsOneStepWith}
+use Rattle.ucq_terms.proofs.Lists.{All-from_contains, Any-from_contains, Any-contains}
+use Rattle.ucq_store.specs.Candidates.{Candidate, plain}
+use Rattle.ucq_store.specs.Lawful.{IsCoreOfOneStep}
+use Rattle.ucq_store.specs.Reports.{AreFound, HasWideStep}
+use Rattle.ucq_step.specs.Steps.{IsCoreOfStep, IsCoveredBy, AreSteps, IsTooWide}
+use Rattle.ucq_pool.specs.Rewritings.{AreFoundBelow}
+use Rattle.ucq_pool.proofs.Renumbered.{step_from_alone, step_to_alone, step_within}
+
+-- one of two lists has it
+Any-left : {X : Type 0} (P : X → Type 0) (xs ys : List X) → Any P xs → Any P (xs ++ ys)
+Any-left P xs ys h = let (x, c, p) = Any-contains P xs h in Any-from_contains P (xs ++ ys) x (Contains-append_left xs ys x c) p
+
+Any-right : {X : Type 0} (P : X → Type 0) (xs ys : List X) → Any P ys → Any P (xs ++ ys)
+Any-right P xs ys h = let (x, c, p) = Any-contains P ys h in Any-from_contains P (xs ++ ys) x (Contains-append_right xs ys x c) p
+
+some_covers : (cores : List Query) (result : Query) → IsCoveredBy cores result → Any (λ c. Covers c result) cores
+some_covers cores result by = Any-from_contains (λ c. Covers c result) cores by.core by.among by.covers
+
+-- the rule at that number, as code reads it
+module _ (rules : List Rule) (number : ℕ) (rule : Rule) (within : number < length rules) (is : rule ≡ get_or rules number rule) where
+  read_rule : rule_at rules number ≡ rule
+  read_rule = sym (get_or_read rules number rule within is (record { heads = []; body = [] }))
+
+  among_rules : (q result : Query) → IsOneStepWith (rule ∷ []) 0 q result → IsOneStepWith rules number q result
+  among_rules q result step =
+      step_from_alone rules number q result within (subst (λ (r : Rule). IsOneStepWith (r ∷ []) 0 q result) (sym read_rule) step)
+
+  alone_rule : (q result : Query) → IsOneStepWith rules number q result → IsOneStepWith (rule ∷ []) 0 q result
+  alone_rule q result step = subst (λ (r : Rule). IsOneStepWith (r ∷ []) 0 q result) read_rule (step_to_alone rules number q result step)
+
+  core_among_rules : (q reduced : Query) → IsCoreOfStep q rule reduced → IsCoreOfOneStep rules q reduced
+  core_among_rules q reduced h = record {
+    result = h.rewriting;
+    step = record { rule = number; step = among_rules q h.rewriting h.step };
+    core_of = h.shrunk;
+  }
+
+  pub wide_step : (q : Query) (count : ℕ) → IsTooWide q rule count → HasWideStep rules q number count
+  wide_step q count h = record { result = h.rewriting; step = among_rules q h.rewriting h.step; width = h.width; wide = h.above }
+
+  -- the candidates of one more rule
+  pub found_more : (q : Query) (candidates more : List Candidate) (cores : List Query) → AreFoundBelow rules number q candidates → AreSteps q rule cores →
+      more ≡ candidates ++ map plain cores → AreFoundBelow rules (number + 1) q more
+  found_more q candidates more cores was new e = record {
+    cores = was.cores ++ cores;
+    fresh = e ∙ (ap (λ (cs : List Candidate). cs ++ map plain cores) was.fresh ∙ sym (map-append plain was.cores cores));
+    derived = All-append (IsCoreOfOneStep rules q) was.cores cores was.derived (All-from_contains (IsCoreOfOneStep rules q) cores (λ c among. core_among_rules q c (new.each c among)));
+    covered = λ k result less step.
+        ⊎_elim
+        (λ same. Any-right (λ c. Covers c result) was.cores cores (some_covers cores result (new.all result (alone_rule q result (subst (λ (n : ℕ). IsOneStepWith rules n q result) same step)))))
+        (λ differ. ⊎_elim
+        (λ below. Any-left (λ c. Covers c result) was.cores cores (was.covered k result below step))
+        (λ above. absurd (omega arith))
+        differ)
+        (cases_order k number);
+  }
+
+-- the candidates of all rules
+pub found_all : (rules : List Rule) (number : ℕ) (q : Query) (candidates : List Candidate) → length rules ≤ number → AreFoundBelow rules number q candidates →
+    AreFound rules q candidates
+found_all rules number q candidates end was = record {
+  cores = was.cores;
+  fresh = was.fresh;
+  derived = was.derived;
+  whole = record {
+    covered = λ result step.
+        let within : step.rule < length rules = step_within rules step.rule q result step.step in
+        was.covered step.rule result (omega arith) step.step;
+  };
+}

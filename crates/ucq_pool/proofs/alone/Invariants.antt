@@ -1,0 +1,15 @@
+use Rattle.std.proofs.Common.{◌≡◌}
+use Rattle.ucq_hom.specs.Space.{IsClear}
+use Rattle.ucq_pool.specs.Progress.{IsAtRest, work_left}
+use Rattle.ucq_pool.proofs.alone.Given as goal
+
+abbrev pub invariant-loop-store : goal.invariant-loop-store
+invariant-loop-store l = record {
+  clear : IsClear l.space;
+  rest : IsAtRest l.store;
+  problem : l.store.problem ≡ l.problem;
+  budget : l.store.budget ≡ l.budget;
+}
+
+abbrev pub decreases-loop-store : goal.decreases-loop-store
+decreases-loop-store l = work_left l.store

@@ -1,0 +1,37 @@
+-- What rewriting a query with one rule after another finds.
+use Rattle.std.specs.Prelude.{◌≡◌, ℕ, ◌+◌, ◌<◌, false, List, map, All, Any, Result, Ok, Err}
+use Rattle.ucq_terms.specs.Syntax.{Rule, Query, Problem}
+use Rattle.ucq_terms.specs.Homomorphism.{Covers}
+use Rattle.ucq_terms.specs.Rewriting.{IsOneStepWith}
+use Rattle.std.specs.Global.{Vec}
+use Rattle.ucq_store.specs.Candidates.{Candidate, plain}
+use Rattle.ucq_store.specs.Lawful.{IsCoreOfOneStep}
+use Rattle.ucq_store.specs.Reports.{Report, AreFound, HasWideStep}
+use Rattle.ucq_pool.specs.declared.Fault.{Fault}
+use Rattle.ucq_pool.specs.declared.Fault.TheVariants.{Wide, Memory}
+
+-- Candidates that no store has taken. Their cores are cores of one-step rewritings of the query, and cover all of these with
+-- the rules below that number.
+pub record AreFoundBelow (rules : List Rule) (number : ℕ) (q : Query) (candidates : List Candidate) : Type 0 where
+  pub cores : List Query
+  pub fresh : candidates ≡ map plain cores
+  pub derived : All (IsCoreOfOneStep rules q) cores
+  pub covered : (rule : ℕ) (result : Query) → rule < number → IsOneStepWith rules rule q result → Any (λ core. Covers core result) cores
+
+-- all candidates, or a rule with which a rewriting is too wide
+abbrev pub DoesRewrite : List Rule → Query → Result (Vec Candidate) Fault → Type 0
+DoesRewrite rules q (Ok candidates) = AreFound rules q candidates.items
+DoesRewrite rules q (Err (Wide rule count)) = HasWideStep rules q rule count
+DoesRewrite rules q (Err Memory) = Unit {0}
+
+-- the candidates with one more rule, or a rewriting with it that is too wide
+abbrev pub DoesRewriteWith : List Rule → ℕ → Query → Result (Unit {0}) Fault → List Candidate → Type 0
+DoesRewriteWith rules number q (Ok done) candidates = AreFoundBelow rules (number + 1) q candidates
+DoesRewriteWith rules number q (Err (Wide rule count)) candidates = HasWideStep rules q rule count
+DoesRewriteWith rules number q (Err Memory) candidates = Unit {0}
+
+-- no store has taken the report, and it is on the query, under the problem
+pub record IsUnspentOn (problem : Problem) (q : Query) (report : Report) : Type 0 where
+  pub problem_of : report.problem ≡ problem
+  pub query_of : report.query ≡ q
+  pub unspent : report.spent ≡ false
