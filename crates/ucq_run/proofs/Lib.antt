@@ -1,4 +1,5 @@
 mod Told
-mod Outcomes
-mod Exact
+mod Digits
+mod Reported
+mod Printing
 mod Decided

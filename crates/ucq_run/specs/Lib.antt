@@ -1,4 +1,4 @@
-pub mod Texts
-pub mod Faults
+pub mod Settings
 pub mod Reading
+pub mod Outcomes
 pub mod Run

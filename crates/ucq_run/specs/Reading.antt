@@ -3,17 +3,26 @@ use Rattle.std.specs.Prelude.{◌≡◌, ◌≤◌, ◌<◌, ◌++◌, ℕ, List
 use Rattle.std.specs.Global.{Vec}
 use Rattle.ucq_outside.specs.Causes.{Rose}
 use Rattle.ucq_run.specs.declared.reading.Unread.{Unread}
-use Rattle.ucq_run.specs.declared.reading.Unread.TheVariants.{Failed, TooLong, Memory}
+use Rattle.ucq_run.specs.declared.reading.Unread.TheVariants as unread
+use Rattle.ucq_run.specs.declared.writing.Unwritten.{Unwritten}
+use Rattle.ucq_run.specs.declared.writing.Unwritten.TheVariants.{Failed, Memory}
 
 -- Ok has the file's bytes, where they are told, and they fit into the room. A fault of the shelf comes only where its count
 -- rose, at a place that is at most the file's length. The file is too long only where it passes the room.
 abbrev pub IsReading : Option (List ℕ) → ℕ → ℕ → ℕ → Result (Vec ℕ) Unread → Type 0
 IsReading held before now room (Ok bytes) = IfSome held (λ file. bytes.items ≡ file) × (length bytes.items ≤ room)
-IsReading held before now room (Err (Failed at)) = Rose before now × IfSome held (λ file. at ≤ length file)
-IsReading held before now room (Err TooLong) = IfSome held (λ file. room < length file)
-IsReading held before now room (Err Memory) = Unit {0}
+IsReading held before now room (Err (unread.Failed at)) = Rose before now × IfSome held (λ file. at ≤ length file)
+IsReading held before now room (Err unread.TooLong) = IfSome held (λ file. room < length file)
+IsReading held before now room (Err unread.Memory) = Unit {0}
 
 -- Ok: where told, all of the text was taken. Err: a prefix of it.
 abbrev pub IsPushed : {E : Type 0} → Option (List ℕ) → Option (List ℕ) → List ℕ → Result (Unit {0}) E → Type 0
 IsPushed before now text (Ok u) = IfSome now (λ bytes. (old : List ℕ) × (before ≡ Some old) × (bytes ≡ old ++ text))
 IsPushed before now text (Err e) = IfSome now (λ bytes. (old : List ℕ) × (count : ℕ) × (before ≡ Some old) × (bytes ≡ old ++ take count text))
+
+-- Ok: where told, all of the text was taken. Else a prefix of it; a failure of the sink comes only where its count of faults rose.
+abbrev pub IsWritten : Option (List ℕ) → Option (List ℕ) → ℕ → ℕ → List ℕ → Result (Unit {0}) Unwritten → Type 0
+IsWritten before now faults_before faults_now text (Ok u) = IfSome now (λ bytes. (old : List ℕ) × (before ≡ Some old) × (bytes ≡ old ++ text))
+IsWritten before now faults_before faults_now text (Err Failed) =
+    Rose faults_before faults_now × IfSome now (λ bytes. (old : List ℕ) × (count : ℕ) × (before ≡ Some old) × (bytes ≡ old ++ take count text))
+IsWritten before now faults_before faults_now text (Err Memory) = IfSome now (λ bytes. (old : List ℕ) × (count : ℕ) × (before ≡ Some old) × (bytes ≡ old ++ take count text))

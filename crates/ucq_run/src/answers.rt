@@ -1,42 +1,30 @@
 //! From the words to the printed answer.
-ghost use Rattle.std.specs.Prelude.{◌≡◌, ◌∷◌, [], ◌<◌, IfOk, IfErr, MatchOption, MatchResult, ◌≤◌, ◌^◌, length, vec_len, List, ℕ, Option, map, string_bytes};
-ghost use Rattle.std.specs.List.{flat_map};
-ghost use Rattle.ucq_terms.specs.Syntax.{Query as QueryValue};
+ghost use Rattle.std.specs.Prelude.{◌≡◌, ◌∷◌, [], ◌<◌, ◌≤◌, ◌^◌, ◌⊎◌, MatchResult, List, ℕ, map, string_bytes, length, vec_len};
+ghost use Rattle.ucq_terms.specs.Syntax.{Problem as ProblemValue};
 ghost use Rattle.ucq_terms.specs.Union.{IsExact};
-ghost use Rattle.ucq_reader.specs.Input.{IsInput};
+ghost use Rattle.ucq_store.specs.Store.{IsCut, IsFinished};
+ghost use Rattle.ucq_store.specs.Lawful.{IsLawful};
+ghost use Rattle.ucq_reader.specs.Input.{IsInput, IsRefused};
 ghost use Rattle.ucq_reader.specs.Outcome.{IsFault, input_value};
-ghost use Rattle.ucq_run.specs.Run.{IsCause, IsEarly, IsFinishedText, IsRefusal, NamesFile, Prints, ReadsPlain};
-ghost use Rattle.ucq_run.specs.Texts.{finished_text};
+ghost use Rattle.ucq_print.specs.Texts.{cut_lines, finished_text, lines_text};
+ghost use Rattle.ucq_run.specs.Run.{IsCause, IsFileInput, IsFileOutcome, IsRefusal, IsWrittenAs, Prints, PrintsRewriting, problem_of};
 
 use crate::outcome::Outcome;
 use crate::reading::{Unread, read_file};
-use crate::texts::{count_line, query_line};
-use crate::writing::write_lines;
+use crate::settings::settings_of;
+use crate::texts::{CutText, FinishedText};
+use crate::writing::{Unwritten, write_text};
 use std::alloc::Global;
-use ucq_hom::{HomSpace, shrink};
-use ucq_outside::{Failed, Shelf, Sink};
+use ucq_hom::HomSpace;
+use ucq_outside::{Shelf, Sink};
+use ucq_pool::alone;
 use ucq_reader::{Input, ReadFault, read_files};
-use ucq_terms::{Names, NoMemory, Query};
+use ucq_store::Store;
+use ucq_store::laws::cut_listing;
+use ucq_terms::{Names, NoMemory, Problem, Union};
 
 /// The most bytes that all files have together.
 const MOST: usize = 67_108_864;
-
-/// The name of the file: there is one word, which doesn't begin with a dash.
-fn file_name(words: &[String]) -> Option<&str>
-    ensures { MatchOption result ((name : List ℕ) → NamesFile (map string_bytes words.now) name → ⊥) (λ name. NamesFile (map string_bytes words.now) name.now) }
-{
-    match words {
-        [word] => {
-            let name = word.as_str();
-            if name.as_bytes().first() == Some(&b'-') {
-                None
-            } else {
-                Some(name)
-            }
-        }
-        _ => None,
-    }
-}
 
 /// The outcome of a fault of the reader.
 fn refusal(fault: ReadFault) -> Outcome
@@ -48,63 +36,105 @@ fn refusal(fault: ReadFault) -> Outcome
     }
 }
 
-/// The input that the bytes of a file stand for, which has no rules.
-fn plain_input(alloc: Global, bytes: Vec<u8>) -> Result<Input, Outcome>
+/// The input that the bytes of a file stand for.
+fn input_in(alloc: Global, bytes: Vec<u8>) -> Result<Input, Outcome>
     requires { vec_len bytes ≤ 2 ^ 26 }
-    ensures { MatchResult result
-        (λ input. IsInput (bytes.items ∷ []) (input_value input) × ((input_value input).rules ≡ []))
-        (λ outcome. IsRefusal bytes.items outcome) }
+    ensures { MatchResult result (λ input. IsInput (bytes.items ∷ []) (input_value input)) (λ outcome. IsRefusal bytes.items outcome) }
 {
     let files = [bytes];
     match read_files(alloc, &files) {
-        Ok(input) => {
-            if input.rules.is_empty() {
-                Ok(input)
-            } else {
-                Err(Outcome::RulesNotBuilt)
-            }
-        }
+        Ok(input) => Ok(input),
         Err(fault) => Err(refusal(fault)),
     }
 }
 
-/// The input of the file that the words name, or why there is none.
-fn input_of<H: Shelf>(alloc: Global, words: &[String], shelf: &mut H) -> Result<Input, Outcome>
+/// The input of the file of that name, or why there is none.
+fn input_of<H: Shelf>(alloc: Global, shelf: &mut H, name: &str) -> Result<Input, Outcome>
     ensures { MatchResult result
-        (λ input. ReadsPlain (record { words = map string_bytes words.now; held = H.held shelf.old; faults_before = H.faults shelf.old; faults_after = H.faults shelf.new }) (input_value input))
-        (λ outcome. IsEarly outcome × IsCause (record { words = map string_bytes words.now; held = H.held shelf.old; faults_before = H.faults shelf.old; faults_after = H.faults shelf.new }) outcome) }
+        (λ input. IsFileInput (H.held shelf.old name.now) (input_value input))
+        (λ outcome. IsFileOutcome (H.held shelf.old name.now) (H.faults shelf.old) (H.faults shelf.new) outcome) }
 {
-    let Some(name) = file_name(words) else {
-        return Err(Outcome::BadWords);
-    };
     match read_file(alloc, shelf, name, MOST) {
-        Ok(bytes) => plain_input(alloc, bytes),
+        Ok(bytes) => input_in(alloc, bytes),
         Err(Unread::Failed { at }) => Err(Outcome::ReadFault { file: 0, at }),
         Err(Unread::TooLong) => Err(Outcome::TooLong { file: 0 }),
         Err(Unread::Memory) => Err(Outcome::NoMemory),
     }
 }
 
-/// The lines of the finished text of a union of one query.
-fn finished_lines(alloc: Global, names: &Names, query: &Query) -> Result<[Vec<u8>; 3], NoMemory>
-    ensures { IfOk result (λ lines. flat_map (λ line. line.items) lines ≡ finished_text names.now (query.now ∷ [])) }
+/// The outcome of writing, which is this one where all was written.
+fn written(answer: Result<(), Unwritten>, whole: Outcome) -> Outcome
+    ensures { IsWrittenAs answer whole result }
 {
-    let head = Vec::from_slice(alloc, b"% finished\n")?;
-    let count = count_line(alloc, 1)?;
-    let line = query_line(alloc, names, query)?;
-    Ok([head, count, line])
+    match answer {
+        Ok(()) => whole,
+        Err(Unwritten::Failed) => Outcome::WriteFault,
+        Err(Unwritten::Memory) => Outcome::NoMemory,
+    }
 }
 
-/// The lines of the finished text of a query's core, which is the exact union of the query where there are no rules.
-fn core_lines(alloc: Global, names: &Names, mut query: Query) -> Result<[Vec<u8>; 3], NoMemory>
-    ensures { IfOk result (λ lines. IsFinishedText names.now (record { rules = []; query = query }) (flat_map (λ line. line.items) lines)) }
+/// Prints an exact union.
+fn print_union<K: Sink>(alloc: Global, names: &Names, union: &Union, out: &mut K) -> Outcome
+    ensures { (problem : ProblemValue) (budget : ℕ) → IsExact problem union.now →
+        PrintsRewriting names.now problem budget
+        (record { taken_before = K.taken out.old; taken_after = K.taken out.new; faults_before = K.faults out.old; faults_after = K.faults out.new }) result }
 {
-    let mut space = HomSpace::new(alloc)?;
-    shrink(&mut space, &mut query);
-    finished_lines(alloc, names, &query)
+    let text = FinishedText { names, union };
+    written(write_text(alloc, out, &text), Outcome::Finished)
 }
 
-/// Prints the core of the query of the file that the words name.
+/// Prints a cut store.
+fn print_cut<K: Sink>(alloc: Global, names: &Names, store: &Store, out: &mut K) -> Outcome
+    requires lawful { IsLawful store.now }
+    requires cut { IsCut store.now }
+    ensures { PrintsRewriting names.now store.now.problem store.now.budget
+        (record { taken_before = K.taken out.old; taken_after = K.taken out.new; faults_before = K.faults out.old; faults_after = K.faults out.new }) result }
+{
+    cut_listing();
+    let text = CutText { names, store };
+    written(write_text(alloc, out, &text), Outcome::Cut)
+}
+
+/// Prints the union of a finished store, or a cut store.
+fn print_store<K: Sink>(alloc: Global, names: &Names, store: Store, out: &mut K) -> Outcome
+    requires { IsFinished store ⊎ IsCut store }
+    ensures { PrintsRewriting names.now store.entry.problem store.entry.budget
+        (record { taken_before = K.taken out.old; taken_after = K.taken out.new; faults_before = K.faults out.old; faults_after = K.faults out.new }) result }
+{
+    if store.is_finished() {
+        let union = store.into_union();
+        print_union(alloc, names, &union, out)
+    } else {
+        print_cut(alloc, names, &store, out)
+    }
+}
+
+/// Rewrites the input's query with its rules, and prints the union or the cut.
+fn rewrite<K: Sink>(alloc: Global, input: Input, budget: u32, out: &mut K) -> Outcome
+    requires rules { length (input_value input).rules ≤ 4096 }
+    requires some { 0 < budget }
+    requires small { budget ≤ 65536 }
+    ensures { PrintsRewriting (input_value input).names (problem_of (input_value input)) budget
+        (record { taken_before = K.taken out.old; taken_after = K.taken out.new; faults_before = K.faults out.old; faults_after = K.faults out.new }) result }
+{
+    let Input {
+        names,
+        rules,
+        query,
+        ..
+    } = input;
+    let problem = Problem::new(rules, query);
+    let mut space = match HomSpace::new(alloc) {
+        Ok(space) => space,
+        Err(NoMemory) => return Outcome::NoMemory,
+    };
+    match alone(alloc, &mut space, &problem, budget) {
+        Ok(store) => print_store(alloc, &names, store, out),
+        Err(NoMemory) => Outcome::NoMemory,
+    }
+}
+
+/// Answers the words: reads the file, rewrites its query, and prints what is found.
 pub fn answer<H: Shelf, K: Sink>(
     alloc: Global,
     words: &[String],
@@ -117,16 +147,11 @@ pub fn answer<H: Shelf, K: Sink>(
         (record { taken_before = K.taken out.old; taken_after = K.taken out.new; faults_before = K.faults out.old; faults_after = K.faults out.new })
         result }
 {
-    let Input { names, query, .. } = match input_of(alloc, words, shelf) {
-        Ok(input) => input,
-        Err(outcome) => return outcome,
+    let Some(settings) = settings_of(words) else {
+        return Outcome::BadWords;
     };
-    let lines = match core_lines(alloc, &names, query) {
-        Ok(lines) => lines,
-        Err(NoMemory) => return Outcome::NoMemory,
-    };
-    match write_lines(out, &lines) {
-        Ok(()) => Outcome::Finished,
-        Err(Failed) => Outcome::WriteFault,
+    match input_of(alloc, shelf, settings.file) {
+        Ok(input) => rewrite(alloc, input, settings.budget, out),
+        Err(outcome) => outcome,
     }
 }

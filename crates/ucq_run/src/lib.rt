@@ -8,17 +8,21 @@ mod answers;
 mod outcome;
 mod reading;
 mod reports;
+mod settings;
 mod texts;
 mod writing;
 
 use std::alloc::Global;
 use ucq_outside::{Shelf, Sink};
 
-/// Reads the file that the words name, and prints its query's core as an exact union of one query.
+/// Reads the file that the words name, rewrites its query with its rules, and prints the union, or the cut with its cause.
 ///
-/// The answer is the status: 0 where the text was taken whole; 1 for want of memory; 2 where the words are not one word
-/// that doesn't begin with a dash; 3 where the shelf failed; 4 where the file is too long, the reader refuses it, or it has
-/// a rule; 6 where the output failed. Each status but 0 has its line on the error stream.
+/// The words are the name of a file, which doesn't begin with a dash, after `--budget` and a number of 1 to 65,536 rows or
+/// alone; 4,096 is the budget where none is given.
+///
+/// The answer is the status: 0 where the text of a finished union was taken whole, which is exact; 5 where that of a cut
+/// was; 1 for want of memory; 2 where the words stand for no settings; 3 where the shelf failed; 4 where the file is too
+/// long or the reader refuses it; 6 where the output failed. Each status but 0 and 5 has its line on the error stream.
 pub fn run_alone<H: Shelf, K: Sink, E: Sink>(
     alloc: Global,
     words: &[String],
@@ -64,6 +68,3 @@ pub fn run_alone<H: Shelf, K: Sink, E: Sink>(
     let outcome = answers::answer(alloc, words, shelf, out);
     reports::report(alloc, err, outcome)
 }
-
-#[cfg(test)]
-mod tests;

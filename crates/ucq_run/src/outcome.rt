@@ -6,9 +6,11 @@ use ucq_reader::ReadFault;
 pub enum Outcome {
     /// The union was printed whole.
     Finished,
+    /// The rewriting was cut, and the cut was printed whole.
+    Cut,
     /// Want of memory.
     NoMemory,
-    /// The words name no file.
+    /// The words stand for no settings.
     BadWords,
     /// A pull from the file failed, which began at this byte.
     ReadFault { file: u32, at: u64 },
@@ -16,8 +18,6 @@ pub enum Outcome {
     TooLong { file: u32 },
     /// The reader refuses the files.
     Refused { fault: ReadFault },
-    /// There is a rule.
-    RulesNotBuilt,
     /// The output didn't take the text whole.
     WriteFault,
 }

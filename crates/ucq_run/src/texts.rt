@@ -1,139 +1,63 @@
-//! The texts of queries and of unions.
-ghost use Rattle.std.specs.Prelude.{◌≡◌, ◌++◌, ◌∷◌, [], ◌<◌, ◌≤◌, length, codes, decimal, IfOk, OnOk, slice_index_or, Some};
-ghost use Rattle.std.specs.List.{flat_map};
-ghost use Rattle.ucq_run.specs.Texts.{answers_text, atom_text, joined, line_feed, name_text, numbered_text, query_text, term_text, terms_text};
+//! The texts that a run prints, as lines that are made one at a time.
+ghost use Rattle.std.specs.Prelude.{◌≡◌, ◌<◌, ◌^◌, ℕ, List, length, slice_get, IfOk, Some};
+ghost use Rattle.ucq_print.specs.Texts.{cut_lines, finished_lines};
 
-use itoa::Buffer;
 use std::alloc::Global;
-use ucq_terms::{Atom, Names, NoMemory, Query, Term};
+use ucq_print::{cut_line, cut_line_count, finished_line, finished_line_count};
+use ucq_store::Store;
+use ucq_terms::{Names, NoMemory, Union};
 
-/// The text of a name's number, which is nothing where the names don't hold it.
-fn name_text(names: &Names, number: u32) -> &[u8]
-    ensures { result.now ≡ name_text names.now number }
-{
-    if number < names.len() {
-        names.text(number)
-    } else {
-        b""
+/// A text of lines.
+pub trait Text {
+    /// Its lines, each with its line feed.
+    ghost lines: { Self → List (List ℕ) };
+
+    /// How many lines it has.
+    fn len(&self) -> u64
+        ensures { result ≡ length (lines self.now) };
+
+    /// The line at a place. The only error is want of memory.
+    fn line(&self, alloc: Global, place: u64) -> Result<Vec<u8>, NoMemory>
+        requires { place < length (lines self.now) }
+        ensures { IfOk result (λ line. slice_get (lines self.now) place ≡ Some line.items) };
+}
+
+/// The finished text of a union.
+#[derive(Clone, Copy)]
+pub struct FinishedText<'a> {
+    pub names: &'a Names,
+    pub union: &'a Union,
+}
+
+impl Text for FinishedText<'_> {
+    ghost lines = { λ t. finished_lines t.names.now t.union.now };
+
+    fn len(&self) -> u64 {
+        finished_line_count(self.union)
+    }
+
+    fn line(&self, alloc: Global, place: u64) -> Result<Vec<u8>, NoMemory> {
+        finished_line(alloc, self.names, self.union, place)
     }
 }
 
-fn push_term(text: &mut Vec<u8>, names: &Names, term: Term) -> Result<(), NoMemory>
-    ensures { OnOk result (text.new.items ≡ text.old.items ++ term_text names.now term) }
-{
-    match term {
-        Term::Constant(number) => text.extend_from_slice(name_text(names, number))?,
-        Term::Variable(number) => {
-            text.push(b'X')?;
-            text.extend_from_slice(Buffer::new().format(number).as_bytes())?;
-        }
+/// The text of a cut store.
+#[derive(Clone, Copy)]
+pub struct CutText<'a, 'p> {
+    pub names: &'a Names,
+    pub store: &'a Store<'p>,
+}
+
+impl Text for CutText<'_, '_> {
+    ghost lines = { λ t. cut_lines t.names.now t.store.now };
+
+    fn len(&self) -> u64 {
+        u64::from(cut_line_count(self.store))
     }
-    Ok(())
-}
 
-/// A comma and a term, for each.
-fn push_more_terms(text: &mut Vec<u8>, names: &Names, terms: &[Term]) -> Result<(), NoMemory>
-    ensures { OnOk result (text.new.items ≡ text.old.items ++ flat_map (λ t. codes "," ++ term_text names.now t) terms.now) }
-{
-    for term in terms {
-        text.push(b',')?;
-        push_term(text, names, *term)?;
+    fn line(&self, alloc: Global, place: u64) -> Result<Vec<u8>, NoMemory> {
+        let count = u64::from(cut_line_count(self.store));
+        prove!(place < count);
+        cut_line(alloc, self.names, self.store, place as u32)
     }
-    Ok(())
-}
-
-/// The terms, with a comma between each two.
-fn push_joined_terms(text: &mut Vec<u8>, names: &Names, terms: &[Term]) -> Result<(), NoMemory>
-    ensures { OnOk result (text.new.items ≡ text.old.items ++ joined (codes ",") (term_text names.now) terms.now) }
-{
-    match terms {
-        [] => Ok(()),
-        [first, rest @ ..] => {
-            push_term(text, names, *first)?;
-            push_more_terms(text, names, rest)
-        }
-    }
-}
-
-/// Terms between parentheses.
-fn push_terms(text: &mut Vec<u8>, names: &Names, terms: &[Term]) -> Result<(), NoMemory>
-    ensures { OnOk result (text.new.items ≡ text.old.items ++ terms_text names.now terms.now) }
-{
-    text.push(b'(')?;
-    push_joined_terms(text, names, terms)?;
-    text.push(b')')?;
-    Ok(())
-}
-
-fn push_atom(text: &mut Vec<u8>, names: &Names, atom: &Atom) -> Result<(), NoMemory>
-    ensures { OnOk result (text.new.items ≡ text.old.items ++ atom_text names.now atom.now) }
-{
-    text.extend_from_slice(name_text(names, atom.name()))?;
-    push_terms(text, names, atom.terms())
-}
-
-/// A comma, a space and an atom, for each.
-fn push_more_atoms(text: &mut Vec<u8>, names: &Names, atoms: &[Atom]) -> Result<(), NoMemory>
-    ensures { OnOk result (text.new.items ≡ text.old.items ++ flat_map (λ a. codes ", " ++ atom_text names.now a) atoms.now) }
-{
-    for atom in atoms {
-        text.extend_from_slice(b", ")?;
-        push_atom(text, names, atom)?;
-    }
-    Ok(())
-}
-
-/// The atoms, with a comma and a space between each two.
-fn push_joined_atoms(text: &mut Vec<u8>, names: &Names, atoms: &[Atom]) -> Result<(), NoMemory>
-    ensures { OnOk result (text.new.items ≡ text.old.items ++ joined (codes ", ") (atom_text names.now) atoms.now) }
-{
-    match atoms {
-        [] => Ok(()),
-        [first, rest @ ..] => {
-            push_atom(text, names, first)?;
-            push_more_atoms(text, names, rest)
-        }
-    }
-}
-
-/// The answer list between parentheses, or nothing where it is empty.
-fn push_answers(text: &mut Vec<u8>, names: &Names, answers: &[Term]) -> Result<(), NoMemory>
-    ensures { OnOk result (text.new.items ≡ text.old.items ++ answers_text names.now answers.now) }
-{
-    if answers.is_empty() {
-        return Ok(());
-    }
-    push_terms(text, names, answers)
-}
-
-fn push_numbered(text: &mut Vec<u8>, names: &Names, query: &Query) -> Result<(), NoMemory>
-    ensures { OnOk result (text.new.items ≡ text.old.items ++ numbered_text names.now query.now) }
-{
-    text.push(b'?')?;
-    push_answers(text, names, query.answers())?;
-    text.extend_from_slice(b" :- ")?;
-    push_joined_atoms(text, names, query.atoms())?;
-    text.push(b'.')?;
-    Ok(())
-}
-
-/// The text of a query, in which the variables are numbered by first occurrence, and a line feed.
-pub fn query_line(alloc: Global, names: &Names, query: &Query) -> Result<Vec<u8>, NoMemory>
-    ensures { IfOk result (λ line. line.items ≡ query_text names.now query.now ++ line_feed) }
-{
-    let numbered = query.rename()?;
-    let mut line = Vec::new(alloc);
-    push_numbered(&mut line, names, &numbered)?;
-    line.push(b'\n')?;
-    Ok(line)
-}
-
-/// The line that says how many queries there are.
-pub fn count_line(alloc: Global, count: u32) -> Result<Vec<u8>, NoMemory>
-    ensures { IfOk result (λ line. line.items ≡ codes "% queries " ++ decimal count ++ line_feed) }
-{
-    let mut line = Vec::from_slice(alloc, b"% queries ")?;
-    line.extend_from_slice(Buffer::new().format(count).as_bytes())?;
-    line.push(b'\n')?;
-    Ok(line)
 }

@@ -1,6 +1,6 @@
 use Rattle.std.proofs.Common.{[], ◌∷◌}
 use Rattle.ucq_reader.specs.Input.{IsRefused}
-use Rattle.ucq_run.proofs.Outcomes.{but_memory}
+use Rattle.ucq_run.proofs.Reported.{but_memory}
 use Rattle.ucq_run.proofs.answers.refusal.Goals as goal
 
 pub returns-in_default : goal.returns-in_default

@@ -1,10 +1,13 @@
 use Rattle.std.proofs.Common.{inl, refl}
-use Rattle.ucq_run.specs.declared.outcome.Outcome.TheVariants.{Finished, NoMemory, BadWords, ReadFault, TooLong, Refused, RulesNotBuilt, WriteFault}
-use Rattle.ucq_run.proofs.Outcomes.{took_nothing, told_as_it_is, told_if_made}
+use Rattle.ucq_run.specs.declared.outcome.Outcome.TheVariants.{Finished, Cut, NoMemory, BadWords, ReadFault, TooLong, Refused, WriteFault}
+use Rattle.ucq_run.proofs.Reported.{took_nothing, told_as_it_is, told_if_made}
 use Rattle.ucq_run.proofs.reports.report.Goals as goal
 
 pub returns-in-Finished : goal.returns-in-Finished
 returns-in-Finished g c = told_as_it_is _ _ Finished _ c.in-Finished.is refl (inl (took_nothing (g.E.Sink.taken c.args.err.now) (g.E.Sink.faults c.args.err.now) (g.E.Sink.faults c.args.err.now)))
+
+pub returns-in-Cut : goal.returns-in-Cut
+returns-in-Cut g c = told_as_it_is _ _ Cut _ c.in-Cut.is refl (inl (took_nothing (g.E.Sink.taken c.args.err.now) (g.E.Sink.faults c.args.err.now) (g.E.Sink.faults c.args.err.now)))
 
 pub returns-in-NoMemory : goal.returns-in-NoMemory
 returns-in-NoMemory g c = told_as_it_is _ _ NoMemory _ c.in-NoMemory.is c.tell.ensures.status c.tell.ensures.line
@@ -19,10 +22,7 @@ pub returns-in-TooLong : goal.returns-in-TooLong
 returns-in-TooLong g c = told_if_made _ _ (TooLong c.in-TooLong.file) _ _ c.in-TooLong.is (λ e. cc) c.too_long_line.ensures c.tell_made-in-TooLong.ensures
 
 pub returns-in-Refused : goal.returns-in-Refused
-returns-in-Refused g c = told_if_made _ _ (Refused c.in-Refused.fault) _ _ c.in-Refused.is (λ e. cc) c.refusal_line.ensures c.tell_made-in-Refused.ensures
-
-pub returns-in-RulesNotBuilt : goal.returns-in-RulesNotBuilt
-returns-in-RulesNotBuilt g c = told_as_it_is _ _ RulesNotBuilt _ c.in-RulesNotBuilt.is c.tell-in-RulesNotBuilt.ensures.status c.tell-in-RulesNotBuilt.ensures.line
+returns-in-Refused g c = told_if_made _ _ (Refused c.in-Refused.fault) _ _ c.in-Refused.is (λ e. cc) c.refused_line.ensures c.tell_made-in-Refused.ensures
 
 pub returns-in-WriteFault : goal.returns-in-WriteFault
 returns-in-WriteFault g c = told_as_it_is _ _ WriteFault _ c.in-WriteFault.is c.tell-in-WriteFault.ensures.status c.tell-in-WriteFault.ensures.line

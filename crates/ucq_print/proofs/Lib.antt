@@ -1,0 +1,6 @@
+pub mod Lines
+mod Spelled
+mod ReadBack
+mod Unions
+mod InputNames
+mod Stored

@@ -1,0 +1,44 @@
+//! The finished text of a union, a line at a time.
+ghost use Rattle.std.specs.Prelude.{◌≡◌, ◌<◌, ℕ, List, length, slice_get, IfOk, Some};
+ghost use Rattle.ucq_print.specs.Texts.{count_line, finished_lines};
+
+use crate::queries::query_line_after;
+use itoa::Buffer;
+use std::alloc::Global;
+use ucq_terms::{Names, NoMemory, Union};
+
+/// The line that says how many queries there are.
+fn count_line(alloc: Global, count: u32) -> Result<Vec<u8>, NoMemory>
+    ensures { IfOk result (λ line. line.items ≡ count_line count) }
+{
+    let mut line = Vec::from_slice(alloc, b"% queries ")?;
+    line.extend_from_slice(Buffer::new().format(count).as_bytes())?;
+    line.push(b'\n')?;
+    Ok(line)
+}
+
+/// How many lines the finished text of a union has.
+pub fn finished_line_count(union: &Union) -> u64
+    ensures { (names : List (List ℕ)) → result ≡ length (finished_lines names union.now) }
+{
+    u64::from(union.len()) + 2
+}
+
+/// The line at this place of the finished text of a union, with its line feed. The lines one after another are the text:
+/// what was found, how many queries there are, and each of them. The only error is want of memory.
+pub fn finished_line(
+    alloc: Global,
+    names: &Names,
+    union: &Union,
+    place: u64,
+) -> Result<Vec<u8>, NoMemory>
+    requires { place < length (finished_lines names.now union.now) }
+    ensures { IfOk result (λ line. slice_get (finished_lines names.now union.now) place ≡ Some line.items) }
+{
+    let count = union.len();
+    match place {
+        0 => Ok(Vec::from_slice(alloc, b"% finished\n")?),
+        1 => count_line(alloc, count),
+        _ => query_line_after(alloc, b"", names, union.query((place - 2) as u32)),
+    }
+}

@@ -1,0 +1,18 @@
+//! The texts that a run prints, made a line at a time: of queries, of a finished union, of a store that was cut, and of the
+//! reader's refusals.
+//!
+//! The definitions of the texts stand in `specs/`.
+#![tactic(auto)]
+
+mod cuts;
+mod finished;
+pub mod laws;
+mod queries;
+mod refusals;
+#[cfg(test)]
+mod tests;
+
+pub use cuts::{cut_line, cut_line_count};
+pub use finished::{finished_line, finished_line_count};
+pub use queries::query_text;
+pub use refusals::refusal_text;

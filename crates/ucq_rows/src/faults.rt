@@ -1,0 +1,134 @@
+//! Refusals, and faults of the outside.
+use crate::harness::{ends, run_on};
+use std::test::Fail;
+
+const TWO_EDGES: &str = "? :- p(X,Y), p(Z,W).\n";
+
+/// Files that are refused, and the line of each.
+const REFUSED: [(&str, &str); 11] = [
+    ("? :- p(a)", "ucq: file 0 byte 0: statement not ended"),
+    ("? :- p(X) & q(X).", "ucq: file 0 byte 10: bad byte"),
+    ("? :- ex:p(X).", "ucq: file 0 byte 5: unknown prefix"),
+    (
+        "@base <http://a/>\n? :- p(X).",
+        "ucq: file 0 statement 0: base is not built",
+    ),
+    ("", "ucq: no query"),
+    ("q(X) :- p(X).", "ucq: no query"),
+    (
+        "?(X) :- p(Y).",
+        "ucq: file 0 statement 0: answer 0 is not in the body",
+    ),
+    (
+        "? :- p(X), .",
+        "ucq: file 0 statement 0 byte 11: bad statement",
+    ),
+    (
+        "? :- p(X). ? :- q(X).",
+        "ucq: file 0 statement 1: second query",
+    ),
+    (
+        "! :- p(X). ? :- p(X).",
+        "ucq: file 0 statement 0: constraint is not built",
+    ),
+    (
+        "? :- p(X,X,X,X,X,X,X,X,X,X,X,X,X,X,X,X,X).",
+        "ucq: file 0 statement 0: arity limit passed with 17",
+    ),
+];
+
+#[test]
+fn a_refused_file_has_its_line_and_no_output(rt: HostRuntime) -> Result<(), Fail> {
+    for (file, line) in REFUSED {
+        let err = format!(in rt.alloc(); "{line}\n")?;
+        assert!(rt;
+            ends(rt.alloc(), &["f"], file, 4, "", err.as_str())?,
+            "{file}"
+        );
+    }
+    Ok(())
+}
+
+#[test]
+fn words_that_stand_for_no_settings_are_refused(rt: HostRuntime) -> Result<(), Fail> {
+    let rows: [&[&str]; 9] = [
+        &[],
+        &["-x"],
+        &["f", "f"],
+        &["--", "f"],
+        &["--budget", "0", "f"],
+        &["--budget", "65537", "f"],
+        &["--budget", "+1", "f"],
+        &["--budget", "0000000001", "f"],
+        &["f", "--budget", "1"],
+    ];
+    for words in rows {
+        let err = "ucq: usage: ucq FILE\n";
+        assert!(rt; ends(rt.alloc(), words, TWO_EDGES, 2, "", err)?);
+    }
+    Ok(())
+}
+
+#[test]
+fn budgets_of_the_whole_range_are_taken(rt: HostRuntime) -> Result<(), Fail> {
+    for budget in ["1", "65536", "000000009"] {
+        let out = "% finished\n% queries 1\n? :- p(X0,X1).\n";
+        assert!(rt;
+            ends(
+                rt.alloc(),
+                &["--budget", budget, "f"],
+                TWO_EDGES,
+                0,
+                out,
+                ""
+            )?,
+            "{budget}"
+        );
+    }
+    Ok(())
+}
+
+#[test]
+fn a_pull_that_fails_names_its_byte(rt: HostRuntime) -> Result<(), Fail> {
+    let rows: [(&str, u64, &[u8]); 3] = [
+        ("f", 1, b"ucq: read fault in file 0 at byte 21\n"),
+        ("f", 0, b"ucq: read fault in file 0 at byte 0\n"),
+        ("g", 9, b"ucq: read fault in file 0 at byte 0\n"),
+    ];
+    for (word, call, line) in rows {
+        let told = run_on(rt.alloc(), &[word], TWO_EDGES.as_bytes(), &[call], &[])?;
+        assert_eq!(rt; told.status, 3);
+        assert_eq!(rt; told.out.len(), 0);
+        assert_eq!(rt; told.err.as_slice(), line);
+    }
+    Ok(())
+}
+
+#[test]
+fn a_push_that_fails_leaves_the_lines_before_it(rt: HostRuntime) -> Result<(), Fail> {
+    let told = run_on(rt.alloc(), &["f"], TWO_EDGES.as_bytes(), &[], &[2])?;
+    assert_eq!(rt; told.status, 6);
+    assert_eq!(rt;
+        told.out.as_slice(),
+        b"% finished\n% queries 1\n".as_slice()
+    );
+    assert_eq!(rt; told.err.as_slice(), b"ucq: write fault\n".as_slice());
+    Ok(())
+}
+
+#[test]
+fn a_file_has_at_most_67108864_bytes(rt: HostRuntime) -> Result<(), Fail> {
+    let alloc = rt.alloc();
+    let mut file = vec![in alloc; b'%'; 67_108_864]?;
+    let told = run_on(alloc, &["f"], file.as_slice(), &[], &[])?;
+    assert_eq!(rt; told.status, 4);
+    assert_eq!(rt; told.err.as_slice(), b"ucq: no query\n".as_slice());
+    file.push(b'%')?;
+    let told = run_on(alloc, &["f"], file.as_slice(), &[], &[])?;
+    assert_eq!(rt; told.status, 4);
+    assert_eq!(rt;
+        told.err.as_slice(),
+        b"ucq: files too long at file 0\n".as_slice()
+    );
+    Ok(())
+}

@@ -1,0 +1,66 @@
+//! Runs over files and sinks in memory.
+use std::alloc::{AllocError, Global};
+use ucq_outside::{MemoryShelf, MemorySink, NoMemoryOutside};
+use ucq_run::run_alone;
+
+/// What a run answered, printed and told.
+#[derive(Drop)]
+pub struct Told {
+    pub status: u8,
+    pub out: Vec<u8>,
+    pub err: Vec<u8>,
+}
+
+fn words_of(alloc: Global, words: &[&str]) -> Result<Vec<String>, AllocError> {
+    let mut all = Vec::new(alloc);
+    for word in words {
+        all.push(String::from_str(alloc, word)?)?;
+    }
+    Ok(all)
+}
+
+fn sink(alloc: Global, failing: &[u64]) -> Result<MemorySink, AllocError> {
+    match MemorySink::new(alloc, failing.to_vec(alloc)?) {
+        Ok(sink) => Ok(sink),
+        Err(NoMemoryOutside) => Err(AllocError),
+    }
+}
+
+/// Runs the words over one file, `f`. The calls of shelf and output in these lists fail.
+pub fn run_on(
+    alloc: Global,
+    words: &[&str],
+    file: &[u8],
+    pulls: &[u64],
+    pushes: &[u64],
+) -> Result<Told, AllocError> {
+    let mut files = Vec::new(alloc);
+    files.push((String::from_str(alloc, "f")?, file.to_vec(alloc)?))?;
+    let mut shelf = MemoryShelf::new(files, pulls.to_vec(alloc)?);
+    let mut out = sink(alloc, pushes)?;
+    let mut err = sink(alloc, &[])?;
+    let words = words_of(alloc, words)?;
+    let status = run_alone(alloc, words.as_slice(), &mut shelf, &mut out, &mut err);
+    Ok(Told {
+        status,
+        out: out.taken().to_vec(alloc)?,
+        err: err.taken().to_vec(alloc)?,
+    })
+}
+
+/// Whether a run of these words over the file ends so.
+pub fn ends(
+    alloc: Global,
+    words: &[&str],
+    file: &str,
+    status: u8,
+    out: &str,
+    err: &str,
+) -> Result<bool, AllocError> {
+    let told = run_on(alloc, words, file.as_bytes(), &[], &[])?;
+    Ok(
+        told.status == status
+            && told.out.as_slice() == out.as_bytes()
+            && told.err.as_slice() == err.as_bytes(),
+    )
+}

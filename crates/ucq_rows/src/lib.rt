@@ -1,0 +1,9 @@
+//! Worked rows: what the whole program answers to small files. It has tests alone.
+#![tactic(auto)]
+
+#[cfg(test)]
+mod faults;
+#[cfg(test)]
+mod harness;
+#[cfg(test)]
+mod rewritings;
