@@ -1,9 +1,10 @@
 -- What the steps of the search add to the pieces found.
-use Rattle.std.proofs.Common.{◌≡◌, ◌<◌, ◌+◌, ◌++◌, ◌∷◌, [], ℕ, List, length, Option, None, sym, ap, ◌∙◌, subst, append_assoc}
+use Rattle.std.proofs.Common.{◌≡◌, ◌<◌, ◌+◌, ◌++◌, ◌∷◌, [], ℕ, List, length, Option, None, sym, ap, ◌∙◌, subst, append_assoc, arith}
 use Rattle.std.proofs.lemmas.List.{append-nil}
 use Rattle.ucq_terms.specs.Syntax.{Query, Rule}
 use Rattle.ucq_terms.specs.Unifier.{KeepsPredicate, IsPieceUnifier}
-use Rattle.ucq_unify.specs.Pieces.{pairs_of, head_at, with_head, IsGrown, IsRooted}
+use Rattle.ucq_terms.proofs.Lists.{first_element}
+use Rattle.ucq_unify.specs.Pieces.{pairs_of, head_at, with_head, IsGrown, IsRooted, AreSinglePieces}
 use Rattle.ucq_unify.specs.Search.{IsBlocked, IsNext, HasFound, HasBranched, HasRooted}
 use Rattle.ucq_unify.proofs.Found.{searched_none, searched_closed, searched_open, branched_none, branched_skip, branched_more, rooted_none, rooted_more}
 use Rattle.ucq_unify.proofs.Choices.{no_heads-no_pairs}
@@ -67,4 +68,12 @@ pub has_rooted_more : (q : Query) (rule : Rule) (tried : ℕ) (choice : List (Op
 has_rooted_more q rule tried choice before after none t b = record {
   rooted = subst (λ (xs : List (List (ℕ × ℕ))). IsRooted q rule (tried + 1) xs) (sym b.added)
       (rooted_more q rule tried choice before b.more (no_heads-no_pairs choice none) t.rooted b.branched);
+}
+
+-- where no atoms have one predicate, there is no piece
+pub no_pieces : (q : Query) (rule : Rule) → ((pair : ℕ × ℕ) → ¬ KeepsPredicate q rule pair) → AreSinglePieces q rule []
+no_pieces q rule none = record {
+  single = λ piece h. absurd (omega (arith, h.1));
+  all = λ piece s. let m = s.unifier.matching in let first = first_element piece m.nonempty in absurd (none first.0 (m.each first.0 first.1));
+  once = λ i j d a b. absurd (omega (arith, b));
 }

@@ -1,5 +1,5 @@
 //! The search for single pieces.
-ghost use Rattle.std.specs.Prelude.{◌≡◌, ◌<◌, ◌^◌, ◌++◌, [], ◌∷◌, ◌↔◌, ◌≤◌, length, IsTrue, OnOk, IfOk};
+ghost use Rattle.std.specs.Prelude.{◌≡◌, ◌<◌, ◌^◌, ◌++◌, [], ◌∷◌, ◌↔◌, ◌≤◌, ℕ, length, IsTrue, OnOk, IfOk};
 ghost use Rattle.ucq_terms.specs.Unifier.{KeepsPredicate};
 ghost use Rattle.ucq_unify.specs.Pieces.{pairs_of, with_head, IsGrown, IsOpen, AreSinglePieces};
 ghost use Rattle.ucq_unify.specs.Table.{size, IsTableOf};
@@ -59,6 +59,32 @@ fn fits(query: &Query, rule: &Rule, place: u32, head: u32) -> bool
     let atom = &query.atoms()[place as usize];
     let other = &rule.heads()[head as usize];
     atom.name() == other.name() && atom.terms().len() == other.terms().len()
+}
+
+// Whether some atom of the head fits the atom at the place.
+fn fits_some(query: &Query, rule: &Rule, place: u32) -> bool
+    requires { place < length query.now.atoms }
+    ensures { IsTrue result ↔ ((head : ℕ) × KeepsPredicate query.now rule.now (place, head)) }
+{
+    let heads = rule.heads().len() as u32;
+    for head in 0..heads {
+        if fits(query, rule, place, head) {
+            return true;
+        }
+    }
+    false
+}
+
+// Whether an atom of the query and one of the head have one predicate.
+fn share_predicate(query: &Query, rule: &Rule) -> bool
+    ensures { IsTrue result ↔ ((pair : ℕ × ℕ) × KeepsPredicate query.now rule.now pair) }
+{
+    for place in 0..query.atoms().len() as u32 {
+        if fits_some(query, rule, place) {
+            return true;
+        }
+    }
+    false
 }
 
 // Adds the choice's pairs as a piece.
@@ -197,10 +223,14 @@ fn search_roots(
 /// A piece grows from its least atom. Wherever it links a variable of the query to an existential variable, it takes in each
 /// atom in which that variable stands, and the search branches over the head's atoms that fit. A branch ends as soon as two
 /// constants meet, or an existential variable meets a constant, an answer variable or another variable of the rule. So the
-/// time grows with the number of ways to grow a piece, not with that of sets of atoms.
+/// time grows with the number of ways to grow a piece, not with that of sets of atoms. Where no atom has a predicate of the
+/// head, no memory is taken.
 pub fn single_pieces(alloc: Global, query: &Query, rule: &Rule) -> Result<Vec<Piece>, NoMemory>
     ensures { IfOk result (λ pieces. AreSinglePieces query.now rule.now pieces.items) }
 {
+    if !share_predicate(query, rule) {
+        return Ok(Vec::new(alloc));
+    }
     let table = Table::new(alloc, query, rule)?;
     let mut classes = match Partition::new(alloc, table.size()) {
         Ok(classes) => classes,
