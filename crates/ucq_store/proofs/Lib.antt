@@ -19,3 +19,4 @@ pub mod Steps
 pub mod Offered
 pub mod First
 pub mod Delivered
+pub mod Opens

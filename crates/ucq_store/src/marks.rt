@@ -2,20 +2,21 @@
 ghost use Rattle.std.specs.Prelude.{◌≡◌, ◌<◌, ◌≤◌, ◌+◌, ◌++◌, ◌∷◌, [], ℕ, length, IsTrue, ◌↔◌, vec_len};
 ghost use Rattle.std.specs.Vec.{vec_capacity};
 ghost use Rattle.ucq_antichain.specs.Rows.{IsLiveAt};
-ghost use Rattle.ucq_store.specs.Store.{mark_at, IsInWork};
+ghost use Rattle.ucq_store.specs.Store.{mark_at, IsInWork, NoneOpenBelow};
 ghost use Rattle.ucq_store.specs.Changes.{IsReopened, IsRaised};
 ghost use Rattle.ucq_store.specs.Calls.{FindsOpen};
 
 use crate::{Mark, RowState};
 use ucq_antichain::Antichain;
 
-// The first open row.
-pub(crate) fn first_open(marks: &[Mark]) -> Option<u32>
-    requires { length marks.now ≤ 65536 }
+// The first open row, where none before `from` is open.
+pub(crate) fn first_open(marks: &[Mark], from: u32) -> Option<u32>
+    requires few { length marks.now ≤ 65536 }
+    requires none { NoneOpenBelow marks.now from }
     ensures { FindsOpen marks.now result }
 {
-    for (row, mark) in marks.iter().enumerate() {
-        if mark.state == RowState::Open {
+    for row in from as usize..marks.len() {
+        if marks[row].state == RowState::Open {
             return Some(row as u32);
         }
     }

@@ -31,19 +31,21 @@ pub struct Store<'p> {
     level: u32,
     claims: u64,
     cut: Option<Cut>,
+    // no row before it is open
+    open_from: u32,
 }
 
 impl<'p> Model for Store<'p> {
     ghost use Rattle.std.specs.Prelude.{◌≤◌};
     ghost use Rattle.std.specs.Vec.{vec_capacity};
-    ghost use Rattle.ucq_store.specs.Store.{Store as StoreValue};
+    ghost use Rattle.ucq_store.specs.Store.{Store as StoreValue, NoneOpenBelow};
     ghost use Rattle.ucq_store.specs.Lawful.{IsLawfulByLevels};
 
     ghost Value = { StoreValue };
 
     ghost view = { λ s. record { problem = s.problem.now; budget = s.antichain.budget; rows = s.antichain.rows; marks = s.marks.items; level = s.level; claims = s.claims; cut = s.cut } };
 
-    ghost invariant = { λ s. IsLawfulByLevels (record { problem = s.problem.now; budget = s.antichain.budget; rows = s.antichain.rows; marks = s.marks.items; level = s.level; claims = s.claims; cut = s.cut }) × (s.antichain.budget ≤ 65536) × (s.antichain.budget ≤ vec_capacity s.marks) };
+    ghost invariant = { λ s. IsLawfulByLevels (record { problem = s.problem.now; budget = s.antichain.budget; rows = s.antichain.rows; marks = s.marks.items; level = s.level; claims = s.claims; cut = s.cut }) × (s.antichain.budget ≤ 65536) × (s.antichain.budget ≤ vec_capacity s.marks) × NoneOpenBelow s.marks.items s.open_from };
 }
 
 impl<'p> Store<'p> {
@@ -77,6 +79,7 @@ impl<'p> Store<'p> {
             level: 0,
             claims: 0,
             cut: None,
+            open_from: 0,
         })
     }
 
@@ -159,16 +162,20 @@ impl<'p> Store<'p> {
     }
 
     /// Claims the first open row, under the number of claims given before. `None` comes where the store is cut, no row is
-    /// open, or the number is at the last `u64`.
+    /// open, or the number is at the last `u64`. The search goes on where the last one ended.
     pub fn claim(&mut self) -> Option<Claim>
         ensures { DoesClaim self.old result self.new }
     {
         if self.cut.is_some() || self.claims == u64::MAX {
             return None;
         }
-        let row = first_open(self.marks.as_slice())?;
+        let Some(row) = first_open(self.marks.as_slice(), self.open_from) else {
+            self.open_from = self.marks.len() as u32;
+            return None;
+        };
         let number = self.claims;
         self.marks[row as usize].state = RowState::Claimed { number };
+        self.open_from = row + 1;
         self.claims = number + 1;
         Some(Claim { row, number })
     }
@@ -186,6 +193,7 @@ impl<'p> Store<'p> {
             return Released::Strange { state: Some(state) };
         }
         self.marks[row].state = RowState::Open;
+        self.open_from = self.open_from.min(claim.row);
         Released::Opened
     }
 
@@ -194,13 +202,14 @@ impl<'p> Store<'p> {
         ensures { DoesReopen self.old self.new }
     {
         open_claimed(self.marks.as_mut_slice());
+        self.open_from = 0;
     }
 
     /// Takes a report on a claimed row. Its candidates are taken in order: each becomes a waiting row one level deeper, or
     /// is covered by a live row; and then the row is done. The store is cut if the report is wide, or if a core is covered by
     /// no live row while the rows number the budget; rows that were added before stay. A cut store, a report on another query
-    /// or problem, and a claim that isn't the row's are refused, in this order. Searches up to two homomorphisms for each
-    /// candidate and live row.
+    /// or problem, and a claim that isn't the row's are refused, in this order. Compares the queries and the problems by
+    /// their values, and searches up to two homomorphisms for each candidate and live row.
     pub fn publish(
         &mut self,
         space: &mut HomSpace,
@@ -237,6 +246,7 @@ impl<'p> Store<'p> {
             return false;
         }
         raise(&self.antichain, self.marks.as_mut_slice());
+        self.open_from = 0;
         self.level += 1;
         true
     }

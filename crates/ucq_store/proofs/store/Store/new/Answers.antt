@@ -11,6 +11,7 @@ use Rattle.ucq_store.specs.Lawful.{IsLawfulByLevels}
 use Rattle.ucq_store.specs.Changes.{new_store}
 use Rattle.ucq_store.proofs.Beginning.{new_is_lawful}
 use Rattle.ucq_store.proofs.First.{live_row, first_row, first_is_sound_core}
+use Rattle.ucq_store.proofs.Opens.{none_below_first}
 use Rattle.ucq_store.proofs.store.Store.new.Goals as goal
 
 abbrev first_mark : Mark
@@ -51,6 +52,7 @@ invariant_of-result c =
       subst IsLawfulByLevels (sym (is_new c)) law,
       omega (arith, c.requires.small),
       omega (arith, c.push_mark.ensures.capacity, c.in_ok-marks.ensures.capacity),
+      none_below_first c.push_mark.new.marks.items,
     )
 
 pub returns : goal.returns

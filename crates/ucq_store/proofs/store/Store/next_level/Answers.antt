@@ -9,6 +9,7 @@ use Rattle.ucq_store.specs.Calls.{CanRise}
 use Rattle.ucq_store.proofs.Live.{live_is_row}
 use Rattle.ucq_store.proofs.Steps.{raised_all, room_above, idle_marks, none_from, some_in_work}
 use Rattle.ucq_store.proofs.store.Store.next_level.Goals.{then-is_some-via-then-is_some, then-is_some-via-else-is_some+then-is_any_in_work, then-is_some-via-else-is_some+else-is_any_in_work+then-not-does_any_wait}
+use Rattle.ucq_store.proofs.Opens.{none_below_first}
 use Rattle.ucq_store.proofs.store.Store.next_level.Goals as goal
 
 pub overflow_add-self : goal.overflow_add-self
@@ -29,7 +30,7 @@ invariant_of-self c =
     let s : Store = record { problem = f.problem.now; budget = f.antichain.budget; rows = f.antichain.rows; marks = f.marks.items; level = f.level; claims = f.claims; cut = f.cut } in
     let up : IsRaised s.rows s.marks c.raise.new.marks = subst (λ (ms : List Mark). IsRaised s.rows ms c.raise.new.marks) c.as_mut_slice.ensures.value c.raise.ensures in
     let idle = idle_marks s.rows s.marks c.as_slice.result.now c.as_slice.ensures.value c.self.invariant.0.lawful.marks_fit c.if-is_any_in_work.ensures.1 in
-    (raised_all s _ c.raise.new.marks (with_items_is f.marks c.raise.new.marks (c.raise.ensures.count ∙ c.as_mut_slice.ensures.len)) idle up c.self.invariant.0, c.self.invariant.1, c.self.invariant.2)
+    (raised_all s _ c.raise.new.marks (with_items_is f.marks c.raise.new.marks (c.raise.ensures.count ∙ c.as_mut_slice.ensures.len)) idle up c.self.invariant.0, c.self.invariant.1, c.self.invariant.2, none_below_first _)
 
 pub returns : goal.returns
 returns c =

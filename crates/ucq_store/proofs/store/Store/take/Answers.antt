@@ -1,11 +1,14 @@
-use Rattle.std.proofs.Common.{◌≡◌, ◌+◌, ◌≤◌, Some, None, sym, ap, ◌∙◌, arith, subst}
+use Rattle.std.proofs.Common.{List, ◌≡◌, ◌+◌, ◌≤◌, Some, None, sym, ap, ◌∙◌, arith, subst}
 use Rattle.ucq_antichain.specs.Rows.{Kept}
-use Rattle.ucq_store.specs.Store.{Store}
+use Rattle.ucq_store.specs.declared.Mark.{Mark}
+use Rattle.ucq_store.specs.declared.RowState.TheVariants.{Waiting}
+use Rattle.ucq_store.specs.Store.{Store, NoneOpenBelow}
 use Rattle.ucq_store.specs.Lawful.{IsLeftOver}
 use Rattle.ucq_store.specs.Candidates.{Candidate, plain, used}
 use Rattle.ucq_store.specs.Calls.{IsOffered, DoesTake}
 use Rattle.ucq_store.proofs.Steps.{depth_fits}
 use Rattle.ucq_store.proofs.Offered.{with_rows, fresh_core, placed_nowhere, over, added_is_lawful, added_is_taken}
+use Rattle.ucq_store.proofs.Opens.{none_below_added}
 use Rattle.ucq_store.proofs.store.Store.take.Goals as goal
 
 pub overflow_add-mark : goal.overflow_add-mark
@@ -28,6 +31,7 @@ invariant_of-self-in-Added c =
       added_is_lawful s c.args.candidate.now c.in_ok-core.core o held c.in-Added.row c.in-Added.pruned c.add.new.self c.push_mark.new.marks.items adds c.push_mark.ensures.items c.in-Added.ensures.stored c.self.invariant.0,
       omega arith,
       omega (arith, c.push_mark.ensures.capacity, c.self.invariant.2),
+      subst (λ (ms : List Mark). NoneOpenBelow ms f.open_from) (sym c.push_mark.ensures.items) (none_below_added f.marks.items f.open_from (record { depth = s.level + 1; state = Waiting }) (λ bad. cc) c.self.invariant.3),
     )
 
 pub returns-clause-does : goal.returns-clause-does
