@@ -22,28 +22,29 @@ IsOrder-numbered atoms order size f = record {
   all = λ p l. let m : p < length order = omega arith in (p, m, get_or_default order p p 0 m ∙ f p m);
 }
 
--- two of them exchanged
+-- two elements exchanged
+pub Contains-from_swapped : (xs ys : List ℕ) (i j p : ℕ) → i < length xs → j < length xs → length ys ≡ length xs → SwappedAt xs ys i j → Contains ys p → Contains xs p
+Contains-from_swapped xs ys i j p l m size s (k, n, e) = elim (cases_eq k i) [
+  | inl q ↦ (j, m, sym (s.0 p) ∙ (ap (λ x. get_or ys x p) (sym q) ∙ e))
+  | inr a ↦ elim (cases_eq k j) [
+    | inl q ↦ (i, l, sym (s.1 p) ∙ (ap (λ x. get_or ys x p) (sym q) ∙ e))
+    | inr b ↦ (k, omega arith, sym (s.2 k p a b) ∙ e)
+  ]
+]
+
+pub Contains-swapped : (xs ys : List ℕ) (i j p : ℕ) → i < length xs → j < length xs → length ys ≡ length xs → SwappedAt xs ys i j → Contains xs p → Contains ys p
+Contains-swapped xs ys i j p l m size s (k, n, e) = elim (cases_eq k i) [
+  | inl q ↦ (j, omega arith, s.1 p ∙ (ap (λ x. get_or xs x p) (sym q) ∙ e))
+  | inr a ↦ elim (cases_eq k j) [
+    | inl q ↦ (i, omega arith, s.0 p ∙ (ap (λ x. get_or xs x p) (sym q) ∙ e))
+    | inr b ↦ (k, omega arith, s.2 k p a b ∙ e)
+  ]
+]
+
+-- two of the places exchanged
 pub IsOrder-swapped : (atoms : List Atom) (xs ys : List ℕ) (i j : ℕ) → i < length xs → j < length xs → length ys ≡ length xs → SwappedAt xs ys i j → IsOrder atoms xs →
     IsOrder atoms ys
 IsOrder-swapped atoms xs ys i j l m size s o = record {
-  places = record { within = λ p c. o.places.within p (back p c) };
-  all = λ p n. forth p (o.all p n);
+  places = record { within = λ p c. o.places.within p (Contains-from_swapped xs ys i j p l m size s c) };
+  all = λ p n. Contains-swapped xs ys i j p l m size s (o.all p n);
 }
-  where
-    back : (p : ℕ) → Contains ys p → Contains xs p
-    back p (k, n, e) = elim (cases_eq k i) [
-      | inl q ↦ (j, m, sym (s.0 p) ∙ (ap (λ x. get_or ys x p) (sym q) ∙ e))
-      | inr a ↦ elim (cases_eq k j) [
-        | inl q ↦ (i, l, sym (s.1 p) ∙ (ap (λ x. get_or ys x p) (sym q) ∙ e))
-        | inr b ↦ (k, omega arith, sym (s.2 k p a b) ∙ e)
-      ]
-    ]
-
-    forth : (p : ℕ) → Contains xs p → Contains ys p
-    forth p (k, n, e) = elim (cases_eq k i) [
-      | inl q ↦ (j, omega arith, s.1 p ∙ (ap (λ x. get_or xs x p) (sym q) ∙ e))
-      | inr a ↦ elim (cases_eq k j) [
-        | inl q ↦ (i, omega arith, s.0 p ∙ (ap (λ x. get_or xs x p) (sym q) ∙ e))
-        | inr b ↦ (k, omega arith, s.2 k p a b ∙ e)
-      ]
-    ]

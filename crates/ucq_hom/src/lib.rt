@@ -5,9 +5,9 @@
 //! in all their combinations. The worst case stays exponential in the number of atoms.
 #![tactic(auto)]
 
-mod bindings;
+pub mod bindings;
 mod levels;
-mod matching;
+pub mod matching;
 mod order;
 mod search;
 mod space;

@@ -1,6 +1,6 @@
 //! Names and their numbers.
 ghost use Rattle.std.specs.Prelude.{◌≡◌, ◌≢◌, ◌<◌, ◌-◌, ◌^◌, [], length, AllPairs, Contains, IfOk, IfErr, IfSome, MatchOption, Some, OnOk, OnErr, slice_get, List, ℕ};
-ghost use Rattle.ucq_terms.specs.Names.{number_of, with_name};
+ghost use Rattle.ucq_terms.specs.Names.{name_text, number_of, with_name};
 
 use crate::NoMemory;
 use indexmap::IndexSet;
@@ -65,6 +65,17 @@ impl Names {
         ensures { slice_get self.now number ≡ Some result.now }
     {
         self.texts.get_index(number as usize).unwrap().as_slice()
+    }
+
+    /// The text of the number, which is nothing where it isn't held.
+    pub fn text_or_empty(&self, number: u32) -> &[u8]
+        ensures { result.now ≡ name_text self.now number }
+    {
+        if number < self.len() {
+            self.text(number)
+        } else {
+            b""
+        }
     }
 
     /// How many names are held.

@@ -7,6 +7,7 @@ use crate::variables::number_terms;
 use crate::{NoMemory, Term};
 use indexmap::IndexSet;
 use std::alloc::AllocError;
+use std::hash::{Hash, Hasher};
 use std::marker::Model;
 
 /// An atom: a predicate's name, by its number, and from 1 to 16 terms. Two atoms have one predicate when their names and
@@ -78,6 +79,22 @@ impl PartialEq for Atom {
 
 impl Eq for Atom {
     ghost laws = { IsEquivalence-atom_eq };
+}
+
+impl Hash for Atom {
+    ghost use Rattle.std.specs.Hash as fed;
+    ghost use Rattle.std.specs.Prelude.{◌++◌};
+    ghost use Rattle.std.proofs.Common.{ap};
+    ghost use Rattle.ucq_terms.specs.Equality.{Decides-atom_eq};
+
+    ghost hash_input = { λ a. fed.u32 a.name ++ fed.slice ⟦<Term as Hash>⟧.hash_input a.terms };
+
+    ghost respects_eq = { λ a b e. ap (λ x. fed.u32 x.name ++ fed.slice ⟦<Term as Hash>⟧.hash_input x.terms) ((Decides-atom_eq a b).0 e) };
+
+    fn hash<H: Hasher>(&self, state: &mut H) {
+        self.name.hash(state);
+        self.terms.hash(state);
+    }
 }
 
 impl Clone for Atom {

@@ -1,0 +1,72 @@
+-- The tuples that are added while one atom is sent to facts, one after another.
+use Rattle.std.proofs.Common.{◌≡◌, ℕ, List, [], ◌∷◌, ◌++◌, length, Option, Contains, sym, ◌∙◌, subst, inl, inr}
+use Rattle.std.proofs.lemmas.List.Elements.{Contains-append_right}
+use Rattle.ucq_terms.specs.declared.Term.{Term}
+use Rattle.ucq_terms.specs.Syntax.{Atom, Query}
+use Rattle.ucq_terms.specs.Unifier.{atom_at}
+use Rattle.ucq_terms.proofs.Lists.{Contains-first}
+use Rattle.ucq_hom.specs.Space.{IsClear}
+use Rattle.ucq_hom.specs.Bindings.{Bound, IsMatched, IsClash}
+use Rattle.ucq_hom.specs.Search.{IsOrder}
+use Rattle.ucq_facts.specs.Facts.{matching}
+use Rattle.ucq_facts.proofs.Matching.{Contains-from_matching}
+use Rattle.ucq_eval.specs.Join.{IsGrownBy, IsCollected, Gives, GivesBy, HasSamePlaces, IsKey}
+use Rattle.ucq_eval.proofs.Grown.{IsGrownBy-nothing, IsGrownBy-same, IsGrownBy-both}
+use Rattle.ucq_eval.proofs.Given.{none_by_no_target, none_by_clash, GivesBy-cases, GivesBy-left, GivesBy-right, GivesBy-same, GivesBy-from_same, GivesBy-matched, Gives-matched, Gives-same, Gives-from_same, Gives-by_matching, matching-given, Gives-maps, MapsInto-given}
+
+-- no target yet
+pub found_none : (b : Bound) (q : Query) (place : ℕ) (rest : List ℕ) (facts : List Atom) (us : List (List ℕ)) → IsGrownBy (GivesBy b q place [] rest facts) us us
+found_none b q place rest facts us = IsGrownBy-nothing _ us (λ t g. absurd (none_by_no_target b q place rest facts t g))
+
+-- one target more
+pub found_more : (a b : Bound) (q : Query) (place : ℕ) (xs : List Atom) (target : Atom) (rest others : List ℕ) (facts : List Atom) (us vs ws : List (List ℕ)) →
+    b ≡ a → HasSamePlaces rest others → IsGrownBy (GivesBy a q place xs rest facts) us vs → IsGrownBy (GivesBy b q place (target ∷ []) others facts) vs ws →
+    IsGrownBy (GivesBy a q place (xs ++ target ∷ []) rest facts) us ws
+found_more a b q place xs target rest others facts us vs ws e s f g =
+    let step : IsGrownBy (GivesBy a q place (target ∷ []) rest facts) vs ws =
+    IsGrownBy-same _ _ vs ws (λ t h. GivesBy-from_same a q place (target ∷ []) rest others facts t s h)
+    (λ t h. GivesBy-same a q place (target ∷ []) rest others facts t s h)
+    (subst (λ (x : Bound). IsGrownBy (GivesBy x q place (target ∷ []) others facts) vs ws) e g) in
+    IsGrownBy-both _ _ _ us vs ws (λ t h. GivesBy-cases a q place xs (target ∷ []) rest facts t h) (λ t h. GivesBy-left a q place xs (target ∷ []) rest facts t h)
+    (λ t h. GivesBy-right a q place xs (target ∷ []) rest facts t h) f step
+
+-- all the facts that match
+pub found_all : (b : Bound) (q : Query) (places : List ℕ) (place : ℕ) (rest : List ℕ) (facts targets : List Atom) (key : Option (ℕ × Term)) (us vs : List (List ℕ)) →
+    targets ≡ matching facts (atom_at q.atoms place).name (length (atom_at q.atoms place).terms) key → IsKey b (atom_at q.atoms place).terms key →
+    HasSamePlaces places (place ∷ rest) → IsGrownBy (GivesBy b q place targets rest facts) us vs → IsGrownBy (Gives b q places facts) us vs
+found_all b q places place rest facts targets key us vs e k s f =
+    IsGrownBy-same _ _ us vs
+    (λ t g. Gives-from_same b q places (place ∷ rest) facts t s
+    (Gives-by_matching b q place rest facts key t (subst (λ (xs : List Atom). GivesBy b q place xs rest facts t) e g)))
+    (λ t g. subst (λ (xs : List Atom). GivesBy b q place xs rest facts t) (sym e)
+    (matching-given b q place rest facts key t k (Gives-same b q places (place ∷ rest) facts t s g))) f
+
+-- a target that the atom is matched with, and one with which it clashes
+pub found_matched : (a b : Bound) (q : Query) (place : ℕ) (target : Atom) (rest : List ℕ) (facts : List Atom) (us vs : List (List ℕ)) →
+    (atom_at q.atoms place).name ≡ target.name → IsMatched a b (atom_at q.atoms place).terms target.terms → IsGrownBy (Gives b q rest facts) us vs →
+    IsGrownBy (GivesBy a q place (target ∷ []) rest facts) us vs
+found_matched a b q place target rest facts us vs n m f =
+    IsGrownBy-same _ _ us vs (λ t g. GivesBy-matched a b q place target rest facts t n m g) (λ t g. Gives-matched a b q place target rest facts t m g) f
+
+pub found_clash : (a : Bound) (q : Query) (place : ℕ) (target : Atom) (rest : List ℕ) (facts : List Atom) (us : List (List ℕ)) →
+    IsClash a (atom_at q.atoms place).terms target.terms → IsGrownBy (GivesBy a q place (target ∷ []) rest facts) us us
+found_clash a q place target rest facts us k = IsGrownBy-nothing _ us (λ t g. absurd (none_by_clash a q place target rest facts t k g))
+
+-- the first of the facts that are left has the name of those that match
+pub name-first : (facts done left : List Atom) (name arity : ℕ) (key : Option (ℕ × Term)) (all : List Atom) (target : Atom) (rest : List Atom) →
+    all ≡ matching facts name arity key → done ++ left ≡ all → left ≡ target ∷ rest → target.name ≡ name
+name-first facts done left name arity key all target rest e f g =
+    let among : Contains left target = subst (λ (xs : List Atom). Contains xs target) (sym g) (Contains-first target rest) in
+    let i : Contains (matching facts name arity key) target =
+    subst (λ (xs : List Atom). Contains xs target) (f ∙ e) (Contains-append_right done left target among) in
+    (Contains-from_matching facts name arity key target i).1.name_is
+
+-- the tuples of all maps are those of homomorphisms
+pub IsCollected-found : (b : Bound) (q : Query) (order : List ℕ) (facts : List Atom) (us vs : List (List ℕ)) → IsClear b.images → IsOrder q.atoms order →
+    IsGrownBy (Gives b q order facts) us vs → IsCollected q facts us vs
+IsCollected-found b q order facts us vs c o f = record {
+  each = λ t. (
+    λ i. elim ((f.each t).0 i) [ inl j ↦ inl j | inr g ↦ inr (MapsInto-given b q order facts t o g) ],
+    λ i. elim i [ inl j ↦ (f.each t).1 (inl j) | inr m ↦ (f.each t).1 (inr (Gives-maps b q order facts t c o m)) ],
+  );
+}

@@ -1,0 +1,9 @@
+pub mod Grown
+pub mod Tuples
+pub mod Places
+pub mod Given
+pub mod Branches
+pub mod Sorting
+pub mod Members
+pub mod Unique
+pub mod Printing

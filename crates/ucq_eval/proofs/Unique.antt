@@ -1,0 +1,77 @@
+-- Strictly sorted lists with the same elements are one list, and what that says of answers.
+use Rattle.std.proofs.Common.{◌≡◌, ◌↔◌, refl, sym, ◌∙◌, ap, ap₂, subst, inl, inr, Bool, true, false, true≢false, List, [], ◌∷◌, ℕ, map, Any, Contains}
+use Rattle.std.specs.List.Sorted.{IsStrictlySortedBy}
+use Rattle.std.specs.Ordering.{is_lt}
+use Rattle.std.specs.declared.cmp.Ordering.{Ordering}
+use Rattle.std.specs.declared.cmp.Ordering.TheVariants.{Less, Equal, Greater}
+use Rattle.std.specs.Cmp.{IsTotalOrder}
+use Rattle.std.proofs.lemmas.Cmp.{tied_itself}
+use Rattle.std.proofs.lemmas.List.Elements.{All-contains}
+use Rattle.std.proofs.lemmas.Map.Keys.{sorted_tail}
+use Rattle.std.proofs.lemmas.Map.Views.{All-after_first}
+use Rattle.ucq_terms.specs.declared.Term.TheVariants.{Constant}
+use Rattle.ucq_terms.specs.declared.Term.{Term}
+use Rattle.ucq_terms.specs.Syntax.{Atom, Query, Problem}
+use Rattle.ucq_terms.specs.Chase.{IsChaseAnswer}
+use Rattle.ucq_terms.specs.Homomorphism.{MapsInto}
+use Rattle.ucq_terms.specs.Union.{IsExact, IsSound}
+use Rattle.ucq_terms.proofs.Lists.{Any-contains, Contains-cons_cases, Contains-empty, Contains-first, Contains-rest}
+use Rattle.ucq_chase.proofs.Replay.{sound_is_carried}
+use Rattle.ucq_eval.specs.Answers.{AreAnswers, constants}
+use Rattle.ucq_eval.proofs.Sorting.{tuple_cmp_total}
+
+-- nothing is less than itself
+irreflexive : {X : Type 0} {R : X → X → Ordering} → IsTotalOrder R → (x : X) → R x x ≡ Less → ⊥
+irreflexive o x h = true≢false (ap is_lt (sym h ∙ tied_itself o x))
+
+-- the first of a strictly sorted list is less than every other element
+below : {X : Type 0} (R : X → X → Ordering) (x : X) (xs : List X) → IsStrictlySortedBy R (x ∷ xs) → (y : X) → Contains xs y → R x y ≡ Less
+below R x xs h y c = All-contains (λ y. R x y ≡ Less) xs y (All-after_first R x xs h) c
+
+-- the first elements are the same, if each list has the other's
+same_first : {X : Type 0} {R : X → X → Ordering} → IsTotalOrder R → (x y : X) (xs ys : List X) → IsStrictlySortedBy R (x ∷ xs) → IsStrictlySortedBy R (y ∷ ys) → Contains (y ∷ ys) x → Contains (x ∷ xs) y → x ≡ y
+same_first {X} {R} o x y xs ys h k c d = elim (Contains-cons_cases y ys x c) [
+  | inl e ↦ sym e
+  | inr later ↦ elim (Contains-cons_cases x xs y d) [
+    | inl e ↦ e
+    | inr later2 ↦ absurd (irreflexive o x (o.trans x y x (below R x xs h y later2) (below R y ys k x later)))
+  ]
+]
+
+-- without their first element, which is the same, each still has the other's
+same_rest : {X : Type 0} {R : X → X → Ordering} → IsTotalOrder R → (x : X) (xs ys : List X) → IsStrictlySortedBy R (x ∷ xs) → ((z : X) → Contains (x ∷ xs) z → Contains (x ∷ ys) z) → (z : X) → Contains xs z → Contains ys z
+same_rest {X} {R} o x xs ys h forth z c = elim (Contains-cons_cases x ys z (forth z (Contains-rest x xs z c))) [
+  | inl e ↦ absurd (irreflexive o x (subst (λ (w : X). R x w ≡ Less) (sym e) (below R x xs h z c)))
+  | inr i ↦ i
+]
+
+pub one_sorted_list : {X : Type 0} {R : X → X → Ordering} → IsTotalOrder R → (xs ys : List X) → IsStrictlySortedBy R xs → IsStrictlySortedBy R ys → ((z : X) → Contains xs z → Contains ys z) → ((z : X) → Contains ys z → Contains xs z) → xs ≡ ys
+one_sorted_list o [] [] h k forth back = refl
+one_sorted_list o [] (y ∷ ys) h k forth back = absurd (Contains-empty y (back y (Contains-first y ys)))
+one_sorted_list o (x ∷ xs) [] h k forth back = absurd (Contains-empty x (forth x (Contains-first x xs)))
+one_sorted_list {X} {R} o (x ∷ xs) (y ∷ ys) h k forth back =
+    let first : x ≡ y = same_first o x y xs ys h k (forth x (Contains-first x xs)) (back y (Contains-first y ys)) in
+    let sorted : IsStrictlySortedBy R (x ∷ ys) = subst (λ (z : X). IsStrictlySortedBy R (z ∷ ys)) (sym first) k in
+    let forth2 : (z : X) → Contains (x ∷ xs) z → Contains (x ∷ ys) z = λ z c. subst (λ (w : X). Contains (w ∷ ys) z) (sym first) (forth z c) in
+    let back2 : (z : X) → Contains (x ∷ ys) z → Contains (x ∷ xs) z = λ z c. back z (subst (λ (w : X). Contains (w ∷ ys) z) first c) in
+    ap₂ (λ (w : X) (ws : List X). w ∷ ws) first (one_sorted_list o xs ys (sorted_tail R x xs h) (sorted_tail R x ys sorted) (same_rest o x xs ys h forth2) (same_rest o x ys xs sorted back2))
+
+-- ---- answers
+
+pub answers_unique : (names : List (List ℕ)) (union : List Query) (facts : List Atom) (one two : List (List ℕ)) → AreAnswers names union facts one → AreAnswers names union facts two → one ≡ two
+answers_unique names union facts one two a b = one_sorted_list (tuple_cmp_total names) one two a.order b.order (λ t c. (b.each t).1 ((a.each t).0 c)) (λ t c. (a.each t).1 ((b.each t).0 c))
+
+pub answers_chased :
+    (names : List (List ℕ)) (problem : Problem) (union : List Query) (facts : List Atom) (tuples : List (List ℕ)) →
+    IsExact problem union →
+    AreAnswers names union facts tuples →
+    (tuple : List ℕ) → Contains tuples tuple ↔ IsChaseAnswer problem facts (constants tuple)
+answers_chased names problem union facts tuples exact answers tuple = (forth, back)
+  where
+    forth : Contains tuples tuple → IsChaseAnswer problem facts (constants tuple)
+    forth h =
+        let (q, c, m) = Any-contains (λ (q : Query). MapsInto q facts (constants tuple)) union ((answers.each tuple).0 h) in
+        sound_is_carried problem q facts (constants tuple) (All-contains (IsSound problem) union q exact.sound c) m
+
+    back : IsChaseAnswer problem facts (constants tuple) → Contains tuples tuple
+    back h = (answers.each tuple).1 (exact.complete.finds facts (constants tuple) h)

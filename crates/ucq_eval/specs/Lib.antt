@@ -1,0 +1,5 @@
+pub mod Join
+pub mod Tuples
+pub mod Answers
+pub mod Order
+pub mod Laws

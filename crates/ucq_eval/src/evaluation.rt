@@ -1,0 +1,41 @@
+//! The answers of a union.
+ghost use Rattle.std.specs.Prelude.{map, IfOk};
+ghost use Rattle.ucq_eval.specs.Answers.{AreAnswers, AreFound};
+
+use crate::join::collect;
+use crate::order::in_order;
+use crate::texts::Tuple;
+use indexmap::IndexSet;
+use std::alloc::Global;
+use ucq_facts::Facts;
+use ucq_hom::bindings::Bindings;
+use ucq_terms::{Names, NoMemory, Union};
+
+/// The tuples of constants with which some member maps into the facts.
+fn found_of(alloc: Global, union: &Union, facts: &Facts) -> Result<IndexSet<Vec<u32>>, NoMemory>
+    ensures { IfOk result (λ found. AreFound union.now facts.now (map (λ t. t.items) found.keys)) }
+{
+    let mut bindings = Bindings::new(alloc)?;
+    let mut found = IndexSet::new(alloc);
+    for place in 0..union.len() {
+        collect(&mut bindings, union.query(place), facts, &mut found)?;
+    }
+    Ok(found)
+}
+
+/// The answers of a union over facts: every tuple of constants with which some member maps into the facts, each once, in
+/// byte order of their texts. Unknown values of the facts stand in no tuple.
+///
+/// Each member is joined atom by atom, next always the atom with the fewest facts by the index. What is held besides the
+/// facts are the tuples and their texts. The only error is want of memory.
+pub fn answers(
+    alloc: Global,
+    union: &Union,
+    names: &Names,
+    facts: &Facts,
+) -> Result<Vec<Tuple>, NoMemory>
+    ensures { IfOk result (λ tuples. AreAnswers names.now union.now facts.now tuples.items) }
+{
+    let found = found_of(alloc, union, facts)?;
+    in_order(alloc, names, found)
+}

@@ -1,0 +1,15 @@
+//! The answers of a union of queries over facts, and the texts of their tuples.
+//!
+//! The definitions stand in `specs/`.
+#![tactic(auto)]
+
+mod evaluation;
+mod join;
+pub mod laws;
+mod order;
+#[cfg(test)]
+mod tests;
+mod texts;
+
+pub use evaluation::answers;
+pub use texts::{Tuple, tuple_text};

@@ -1,0 +1,4 @@
+pub mod Matching
+mod Places
+mod Pushed
+mod Indexed
