@@ -82,10 +82,10 @@ from_filter_map {X} {Y} h (x ∷ xs) y i = go (λ j. from_filter_map h xs y j) (
       | inr k ↦ let (z, l, f) = r k in (z, Contains-rest x xs z l, f)
     ]
 
-filter_map-none : {X Y : Type 0} (h : X → Option Y) (xs : List X) (x : X) → h x ≡ None → filter_map h (xs ++ x ∷ []) ≡ filter_map h xs
+pub filter_map-none : {X Y : Type 0} (h : X → Option Y) (xs : List X) (x : X) → h x ≡ None → filter_map h (xs ++ x ∷ []) ≡ filter_map h xs
 filter_map-none h xs x e = filter_map-append h xs (x ∷ []) ∙ (ap (λ o. filter_map h xs ++ cons_option o []) e ∙ append-nil (filter_map h xs))
 
-filter_map-some : {X Y : Type 0} (h : X → Option Y) (xs : List X) (x : X) (y : Y) → h x ≡ Some y → filter_map h (xs ++ x ∷ []) ≡ filter_map h xs ++ y ∷ []
+pub filter_map-some : {X Y : Type 0} (h : X → Option Y) (xs : List X) (x : X) (y : Y) → h x ≡ Some y → filter_map h (xs ++ x ∷ []) ≡ filter_map h xs ++ y ∷ []
 filter_map-some h xs x y e = filter_map-append h xs (x ∷ []) ∙ ap (λ o. filter_map h xs ++ cons_option o []) e
 
 -- the names have the texts of each statement
@@ -234,7 +234,7 @@ mapped_some : {A B : Type 0} (f : A → B) (o : Option A) (b : B) → mapped f o
 mapped_some f None b e = absurd cc
 mapped_some f (Some a) b e = (a, refl, cc)
 
-mapped-none : {A B : Type 0} (f : A → B) (o : Option A) → o ≡ None → mapped f o ≡ None
+pub mapped-none : {A B : Type 0} (f : A → B) (o : Option A) → o ≡ None → mapped f o ≡ None
 mapped-none f o e = ap (mapped f) e
 
 -- the texts of a query that was asked are held

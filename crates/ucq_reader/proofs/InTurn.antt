@@ -115,7 +115,7 @@ made names rules query facts = record { names = names; rules = rules; query = qu
 same_query : (a b : Query) → Some a ≡ Some b → a ≡ b
 same_query a b e = same_Some a b e
 
-parts : (g : GatheredValue) (input : InputValue) (q : Query) → ArePartsOf g input → g.query ≡ Some q → record { names = g.names; rules = g.rules; query = q; facts = g.facts } ≡ input
+pub parts : (g : GatheredValue) (input : InputValue) (q : Query) → ArePartsOf g input → g.query ≡ Some q → record { names = g.names; rules = g.rules; query = q; facts = g.facts } ≡ input
 parts g input q p e =
     let same : q ≡ input.query = same_query q input.query (sym e ∙ p.query) in
     ap (λ (x : Query). made g.names g.rules x g.facts) same ∙ (ap (λ (x : List (List ℕ)). made x g.rules input.query g.facts) (sym p.names) ∙ (ap (λ (x : List Rule). made input.names x input.query g.facts) (sym p.rules) ∙ ap (λ (x : List Atom). made input.names input.rules input.query x) (sym p.facts)))

@@ -21,3 +21,4 @@ pub mod Limits
 pub mod Gathering
 pub mod Sentences
 pub mod Added
+pub mod Making

@@ -126,7 +126,7 @@ value_variable : (names : List (List ℕ)) (place : List ℕ → ℕ) (s : Symbo
 value_variable names place (constant text) v e = absurd cc
 value_variable names place (variable text) v e = (text, refl)
 
-safe_values : (names : List (List ℕ)) (place : List ℕ → ℕ) (q : SymbolQuery) → IsSafeQuery q → 0 < length q.atoms →
+pub safe_values : (names : List (List ℕ)) (place : List ℕ → ℕ) (q : SymbolQuery) → IsSafeQuery q → 0 < length q.atoms →
     IsSafe (record { answers = map (term_value names place) q.answers; atoms = map (atom_value names place) q.atoms })
 safe_values names place q safe some = record {
   nonempty = omega (arith, length-map q.atoms (atom_value names place), some);

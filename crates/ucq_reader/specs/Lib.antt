@@ -11,3 +11,5 @@ pub mod Gathered
 pub mod Outcome
 pub mod Placing
 pub mod Building
+pub mod Made
+pub mod Making

@@ -293,7 +293,11 @@ impl Numbers {
 }
 
 /// The stored query of these answers and atoms, which make one.
-fn stored_query(alloc: Global, answers: Vec<Term>, atoms: Vec<Atom>) -> Result<Query, ReadFault>
+pub(crate) fn stored_query(
+    alloc: Global,
+    answers: Vec<Term>,
+    atoms: Vec<Atom>,
+) -> Result<Query, ReadFault>
     requires few_answers { vec_len answers ≤ 16 }
     requires few_atoms { vec_len atoms ≤ 32 }
     requires safe { IsSafe (record { answers = answers.items; atoms = atoms.items }) }

@@ -125,7 +125,9 @@ fn take_file(
 fn whole_fault(gathered: &Gathered) -> Option<ReadFault>
     requires rules { length gathered.now.rules < 2 ^ 32 }
     requires facts { length gathered.now.facts < 2 ^ 32 }
-    ensures { (all : List Placed) → IsGathered all gathered.now → IsWhole all gathered.now result }
+    ensures whole { (all : List Placed) → IsGathered all gathered.now → IsWhole all gathered.now result }
+    ensures few_rules { result ≡ None → length gathered.now.rules ≤ 4096 }
+    ensures few_facts { result ≡ None → length gathered.now.facts ≤ 2 ^ 20 }
 {
     let rules = gathered.rule_count();
     if rules > RULES {
@@ -160,6 +162,8 @@ pub fn read_files(alloc: Global, files: &[Vec<u8>]) -> Result<Input, ReadFault>
     requires few { length files.now ≤ 64 }
     requires small { byte_count (texts files.now) ≤ 2 ^ 26 }
     ensures input { IfOk result (λ input. IsInput (texts files.now) (input_value input)) }
+    ensures rules { IfOk result (λ input. length (input_value input).rules ≤ 4096) }
+    ensures facts { IfOk result (λ input. length (input_value input).facts ≤ 2 ^ 20) }
     ensures fault { IfErr result (λ fault. IsFault (texts files.now) fault) }
 {
     let mut gathered = Gathered::new(alloc)?;

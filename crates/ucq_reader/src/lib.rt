@@ -12,6 +12,7 @@ ghost use Rattle.ucq_reader.specs.declared.ReadFault.TheVariants.{Memory};
 
 pub use files::read_files;
 pub use input::Input;
+pub use made::made_input;
 use std::alloc::{AllocError, AllocFailed};
 use ucq_terms::NoMemory;
 
@@ -20,6 +21,7 @@ mod faults;
 mod files;
 mod gathered;
 mod input;
+mod made;
 mod names;
 mod parse;
 mod stages;

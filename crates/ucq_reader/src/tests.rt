@@ -2,7 +2,7 @@
 ghost use Rattle.std.specs.Prelude.{◌≡◌, ◌≤◌, ◌+◌, ◌*◌, ◌^◌, length, IfOk, map};
 ghost use Rattle.ucq_reader.specs.Outcome.{byte_count, texts};
 
-use crate::{Input, NotBuiltKind, ReadFault, Which, Whole, read_files};
+use crate::{Input, NotBuiltKind, ReadFault, Which, Whole, made_input, read_files};
 use std::alloc::{AllocError, Global};
 use std::test::Fail;
 
@@ -298,5 +298,48 @@ fn no_front_of_the_university_without_the_last_dot_is_read(rt: HostRuntime) -> R
         };
         assert!(rt; refused, "{end} bytes");
     }
+    Ok(())
+}
+
+#[test]
+fn made_input_is_what_its_text_stands_for(rt: HostRuntime) -> Result<(), Fail> {
+    let alloc = rt.alloc();
+    let text = "c0(X) :- c1(X). r(X,Y), c0(Y) :- d(X). ?(X) :- r(X,Y), c0(Y).
+r(u0,v0), c0(v0). r(u1,v1), c1(v1). d(w).";
+    let made = made_input(alloc, 1)?;
+    let read = read_one(alloc, text.as_bytes())?;
+    assert_eq!(rt;
+        (made.rules.len(), made.facts.len(), made.names.len()),
+        (2, 5, 9)
+    );
+    assert!(rt;
+        made.rules == read.rules && made.facts == read.facts && made.query.same(&read.query)
+    );
+    for (number, name) in [
+        (0, "c0"),
+        (1, "c1"),
+        (2, "r"),
+        (3, "d"),
+        (4, "u0"),
+        (5, "v0"),
+        (6, "u1"),
+        (7, "v1"),
+        (8, "w"),
+    ] {
+        assert_eq!(rt; made.names.find(name.as_bytes()), Some(number), "{name}");
+        assert_eq!(rt; read.names.find(name.as_bytes()), Some(number), "{name}");
+    }
+    Ok(())
+}
+
+#[test]
+fn made_input_grows_with_its_number(rt: HostRuntime) -> Result<(), Fail> {
+    let made = made_input(rt.alloc(), 120)?;
+    assert_eq!(rt;
+        (made.rules.len(), made.facts.len(), made.names.len()),
+        (121, 243, 366)
+    );
+    assert_eq!(rt; made.names.find("c120".as_bytes()), Some(120));
+    assert_eq!(rt; made.names.find("c121".as_bytes()), None);
     Ok(())
 }

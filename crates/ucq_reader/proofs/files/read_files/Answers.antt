@@ -56,11 +56,11 @@ pub returns-in-Some-clause-fault : goal.returns-in-Some-clause-fault
 returns-in-Some-clause-fault c =
     let ended : length (texts c.args.files.now) ≤ c.loop-file.file = omega (arith, length-map c.args.files.now (λ (f : Vec ℕ Global). f.items), c.loop-file-test.false) in
     let t = c.loop-file.invariant in
-    or_memory (IsRefused (texts c.args.files.now)) c.in-Some.fault (whole_refused (texts c.args.files.now) c.loop-file.file c.loop-file.gathered t ended c.in-Some.fault (c.in-Some.ensures t.all t.gathered))
+    or_memory (IsRefused (texts c.args.files.now)) c.in-Some.fault (whole_refused (texts c.args.files.now) c.loop-file.file c.loop-file.gathered t ended c.in-Some.fault (c.in-Some.ensures.whole t.all t.gathered))
 
 pub returns-in-None-clause-input : goal.returns-in-None-clause-input
 returns-in-None-clause-input c =
     let ended : length (texts c.args.files.now) ≤ c.loop-file.file = omega (arith, length-map c.args.files.now (λ (f : Vec ℕ Global). f.items), c.loop-file-test.false) in
     let t = c.loop-file.invariant in
     let parts = c.into_input.ensures in
-    whole_input (texts c.args.files.now) c.loop-file.file c.loop-file.gathered t ended (c.in-None.ensures t.all t.gathered) (input_value c.into_input.result) (record { names = parts.names; rules = parts.rules; facts = parts.facts; query = parts.query })
+    whole_input (texts c.args.files.now) c.loop-file.file c.loop-file.gathered t ended (c.in-None.ensures.whole t.all t.gathered) (input_value c.into_input.result) (record { names = parts.names; rules = parts.rules; facts = parts.facts; query = parts.query })

@@ -1,0 +1,5 @@
+use Rattle.ucq_reader.specs.Making.{HasChain}
+use Rattle.ucq_reader.proofs.made.Parts.push_rules.Given as goal
+
+abbrev pub invariant-loop-i : goal.invariant-loop-i
+invariant-loop-i l = HasChain l.i l.self
