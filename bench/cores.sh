@@ -1,12 +1,7 @@
 #!/usr/bin/env bash
 # Times the proved program on queries of at most 32 atoms over one binary predicate, whose cores are found by search.
 # Usage: bench/cores.sh, after ./ucq or rt ci has built crates/ucq/out/ucq.
-set -u
-top=$(cd "$(dirname "$0")/.." && pwd)
-program=$top/crates/ucq/out/ucq
-[ -x "$program" ] || { echo "build the program first, by ./ucq FILE" >&2; exit 1; }
-folder=$(mktemp -d)
-trap 'rm -rf "$folder"' EXIT
+. "$(dirname "$0")/setup.sh"
 
 # Each generator prints the atoms of a query, one a line.
 star() { for i in $(seq 32); do echo "p(X,Y$i)"; done; }

@@ -1,12 +1,7 @@
 #!/usr/bin/env bash
 # Times the proved program on files near the limit of 2^26 bytes: comment, one text literal, identifiers, facts.
 # Usage: bench/reading.sh, after ./ucq or rt ci has built crates/ucq/out/ucq.
-set -u
-top=$(cd "$(dirname "$0")/.." && pwd)
-program=$top/crates/ucq/out/ucq
-[ -x "$program" ] || { echo "build the program first, by ./ucq FILE" >&2; exit 1; }
-folder=$(mktemp -d)
-trap 'rm -rf "$folder"' EXIT
+. "$(dirname "$0")/setup.sh"
 limit=67108864
 
 repeated() { yes "$1" | tr -d '\n' | head -c "$2"; }

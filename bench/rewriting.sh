@@ -1,12 +1,7 @@
 #!/usr/bin/env bash
 # Times the proved program on rules and queries that it rewrites.
 # Usage: bench/rewriting.sh, after ./ucq or rt ci has built crates/ucq/out/ucq.
-set -u
-top=$(cd "$(dirname "$0")/.." && pwd)
-program=$top/crates/ucq/out/ucq
-[ -x "$program" ] || { echo "build the program first, by ./ucq FILE" >&2; exit 1; }
-folder=$(mktemp -d)
-trap 'rm -rf "$folder"' EXIT
+. "$(dirname "$0")/setup.sh"
 
 # Each generator prints a file.
 
@@ -62,7 +57,8 @@ paths() {
     echo "? :- e(a,b)."
 }
 
-printf '%-8s %7s %7s %10s %10s\n' input status rows seconds kilobytes
+# Each live row of a finished run was tried with each rule, so "tried" is the least number of steps that were made.
+printf '%-8s %7s %7s %9s %10s %10s\n' input status rows tried seconds kilobytes
 for name in chain tree pairs roles pieces step paths; do
     $name > "$folder/$name.dlgp"
     words=()
@@ -72,5 +68,9 @@ for name in chain tree pairs roles pieces step paths; do
     /usr/bin/time -f '%e %M' -o "$folder/time" "$program" "${words[@]}" "$folder/$name.dlgp" > "$folder/out"
     status=$?
     read -r seconds kilobytes < <(tail -n 1 "$folder/time")
-    printf '%-8s %7d %7d %10s %10s\n' $name $status "$(grep -c '^?' "$folder/out")" "$seconds" "$kilobytes"
+    rows=$(grep -c '^?' "$folder/out")
+    rules=$(grep -c '^[a-z].*:-' "$folder/$name.dlgp")
+    tried=-
+    [ $status -eq 0 ] && tried=$((rows * rules))
+    printf '%-8s %7d %7d %9s %10s %10s\n' $name $status "$rows" "$tried" "$seconds" "$kilobytes"
 done

@@ -9,7 +9,7 @@ use Rattle.std.proofs.lemmas.List.{length-map, append-nil}
 use Rattle.ucq_terms.specs.Syntax.{Query}
 use Rattle.ucq_antichain.specs.declared.Row.{Row}
 use Rattle.ucq_antichain.specs.Rows.{no_row, row_at}
-use Rattle.ucq_print.specs.Texts.{query_line, row_line, row_lines, left_line, lines_text, finished_lines, rows_cut_lines, wide_cut_lines}
+use Rattle.ucq_print.specs.Texts.{answer_lines, tuple_line, query_line, row_line, row_lines, left_line, lines_text, finished_lines, rows_cut_lines, wide_cut_lines}
 
 -- an element of a list's front, and the one behind it
 slice_get-front : {X : Type 0} (xs ys : List X) (k : ℕ) → k < length xs → slice_get (xs ++ ys) k ≡ slice_get xs k
@@ -72,3 +72,13 @@ lines_around lines k line h =
     ap lines_text (split_at lines k line (slice_get_within lines k line h)) ∙
     (flat_map-append (λ l. l) (take k lines) (get_or lines k line ∷ drop (suc k) lines) ∙
     ap (λ l. lines_text (take k lines) ++ (l ++ lines_text (drop (suc k) lines))) (get_or_from_slice_get lines k line line h))
+
+-- a tuple's line among the answers
+pub tuple_at_place : (names : List (List ℕ)) (tuples : List (List ℕ)) (place : ℕ) (tuple line : List ℕ) → place ≢ 0 → place < length (answer_lines names tuples) →
+    tuple ≡ get_or tuples (place - 1) tuple → line ≡ tuple_line names tuple → slice_get (answer_lines names tuples) place ≡ Some line
+tuple_at_place names tuples zero tuple line other h at is = absurd (other refl)
+tuple_at_place names tuples (suc k) tuple line other h at is =
+    let inside : k < length tuples = omega (arith, h, length-map tuples (tuple_line names)) in
+    let same : suc k - 1 ≡ k = omega arith in
+    let here : get_or tuples k tuple ≡ tuple = ap (λ (n : ℕ). get_or tuples n tuple) (sym same) ∙ sym at in
+    slice_get-map (tuple_line names) tuples k ∙ ap (option_map (tuple_line names)) (slice_get-get_or tuples k tuple inside) ∙ ap (λ (t : List ℕ). Some (tuple_line names t)) here ∙ ap Some (sym is)

@@ -7,7 +7,9 @@ use Rattle.ucq_terms.specs.declared.Term.{Term}
 use Rattle.ucq_terms.specs.declared.Term.TheVariants.{Constant, Variable}
 use Rattle.ucq_terms.specs.Syntax.{Atom, Query}
 use Rattle.ucq_terms.proofs.Pairwise.{AllPairs-at}
-use Rattle.ucq_print.specs.Texts.{joined, name_text, term_text, terms_text, atom_text, answers_text, numbered_text}
+use Rattle.ucq_terms.specs.Names.{name_text}
+use Rattle.ucq_eval.specs.Tuples.{joined}
+use Rattle.ucq_print.specs.Texts.{term_text, terms_text, atom_text, answers_text, numbered_text}
 use Rattle.ucq_print.specs.Laws.{IsNameText, AreReadable}
 use Rattle.ucq_print.proofs.Spelled.{AreOne, Stops, heads_differ, tails, open_stops, close_stops, comma_stops, names_apart, begins_otherwise, decimals_apart}
 

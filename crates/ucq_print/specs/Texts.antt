@@ -1,26 +1,19 @@
 -- The texts that a run prints: of a finished union, and of rows where the run was cut.
-use Rattle.std.specs.Prelude.{ℕ, Bool, true, false, List, [], ◌∷◌, ◌++◌, length, map, codes, decimal, slice_index_or, Option, Some, None}
+use Rattle.std.specs.Prelude.{ℕ, Bool, true, false, List, [], ◌∷◌, ◌++◌, length, map, codes, decimal, sum_by, Option, Some, None}
 use Rattle.std.specs.List.{flat_map}
 use Rattle.ucq_terms.specs.declared.Term.{Term}
 use Rattle.ucq_terms.specs.declared.Term.TheVariants.{Constant, Variable}
 use Rattle.ucq_terms.specs.Syntax.{Atom, Query}
+use Rattle.ucq_terms.specs.Names.{name_text}
 use Rattle.ucq_terms.specs.Numbering.{numbered_query}
 use Rattle.ucq_antichain.specs.declared.Row.{Row}
 use Rattle.ucq_store.specs.declared.Cut.{Cut}
 use Rattle.ucq_store.specs.declared.Cut.TheVariants.{Rows, Wide}
 use Rattle.ucq_store.specs.Store.{Store}
+use Rattle.ucq_eval.specs.Tuples.{joined, tuple_text}
 
 abbrev pub line_feed : List ℕ
 line_feed = 10 ∷ []
-
--- the texts of the elements, with the separator between each two
-abbrev pub joined : {A : Type 0} → List ℕ → (A → List ℕ) → List A → List ℕ
-joined separator text [] = []
-joined separator text (x ∷ xs) = text x ++ flat_map (λ y. separator ++ text y) xs
-
--- the text of a name's number, which is nothing where the names don't hold it
-abbrev pub name_text : List (List ℕ) → ℕ → List ℕ
-name_text names number = slice_index_or names number []
 
 -- A constant is its text. The variables are X0, X1 and so on.
 abbrev pub term_text : List (List ℕ) → Term → List ℕ
@@ -66,6 +59,39 @@ finished_lines names union = codes "% finished\n" ∷ count_line (length union) 
 
 abbrev pub finished_text : List (List ℕ) → List Query → List ℕ
 finished_text names union = lines_text (finished_lines names union)
+
+-- how many answers there are
+abbrev pub answer_count_line : ℕ → List ℕ
+answer_count_line count = codes "% answers " ++ decimal count ++ line_feed
+
+-- an answer on a line of its own
+abbrev pub tuple_line : List (List ℕ) → List ℕ → List ℕ
+tuple_line names tuple = codes "% " ++ tuple_text names tuple ++ line_feed
+
+-- how many answers there are, and each of them on a line
+abbrev pub answer_lines : List (List ℕ) → List (List ℕ) → List (List ℕ)
+answer_lines names tuples = answer_count_line (length tuples) ∷ map (tuple_line names) tuples
+
+-- The finished text of a union with its answers over the facts.
+abbrev pub answered_lines : List (List ℕ) → List Query → List (List ℕ) → List (List ℕ)
+answered_lines names union tuples = finished_lines names union ++ answer_lines names tuples
+
+abbrev pub answered_text : List (List ℕ) → List Query → List (List ℕ) → List ℕ
+answered_text names union tuples = lines_text (answered_lines names union tuples)
+
+-- how many atoms the queries have together
+abbrev pub atom_count : List Query → ℕ
+atom_count union = sum_by (λ (q : Query). length q.atoms) union
+
+abbrev pub atom_count_line : ℕ → List ℕ
+atom_count_line count = codes "% atoms " ++ decimal count ++ line_feed
+
+-- The summary of a union and its answers: how many queries, atoms and answers there are.
+abbrev pub summary_lines : ℕ → ℕ → ℕ → List (List ℕ)
+summary_lines queries atoms answers = codes "% finished\n" ∷ count_line queries ∷ atom_count_line atoms ∷ answer_count_line answers ∷ []
+
+abbrev pub summary_text : ℕ → ℕ → ℕ → List ℕ
+summary_text queries atoms answers = lines_text (summary_lines queries atoms answers)
 
 -- what stands before a row's query: nothing where the row is live
 abbrev pub life_text : Bool → List ℕ

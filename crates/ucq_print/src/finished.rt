@@ -1,25 +1,16 @@
 //! The finished text of a union, a line at a time.
-ghost use Rattle.std.specs.Prelude.{◌≡◌, ◌<◌, ℕ, List, length, slice_get, IfOk, Some};
-ghost use Rattle.ucq_print.specs.Texts.{count_line, finished_lines};
+ghost use Rattle.std.specs.Prelude.{◌≡◌, ◌<◌, ◌^◌, ℕ, List, length, slice_get, IfOk, Some};
+ghost use Rattle.ucq_print.specs.Texts.{finished_lines};
 
+use crate::answers::number_line;
 use crate::queries::query_line_after;
-use itoa::Buffer;
 use std::alloc::Global;
 use ucq_terms::{Names, NoMemory, Union};
 
-/// The line that says how many queries there are.
-fn count_line(alloc: Global, count: u32) -> Result<Vec<u8>, NoMemory>
-    ensures { IfOk result (λ line. line.items ≡ count_line count) }
-{
-    let mut line = Vec::from_slice(alloc, b"% queries ")?;
-    line.extend_from_slice(Buffer::new().format(count).as_bytes())?;
-    line.push(b'\n')?;
-    Ok(line)
-}
-
 /// How many lines the finished text of a union has.
 pub fn finished_line_count(union: &Union) -> u64
-    ensures { (names : List (List ℕ)) → result ≡ length (finished_lines names union.now) }
+    ensures lines { (names : List (List ℕ)) → result ≡ length (finished_lines names union.now) }
+    ensures few { result < 2 ^ 33 }
 {
     u64::from(union.len()) + 2
 }
@@ -38,7 +29,7 @@ pub fn finished_line(
     let count = union.len();
     match place {
         0 => Ok(Vec::from_slice(alloc, b"% finished\n")?),
-        1 => count_line(alloc, count),
+        1 => number_line(alloc, b"% queries ", u64::from(count)),
         _ => query_line_after(alloc, b"", names, union.query((place - 2) as u32)),
     }
 }

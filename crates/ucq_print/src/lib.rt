@@ -1,9 +1,10 @@
-//! The texts that a run prints, made a line at a time: of queries, of a finished union, of a store that was cut, and of the
+//! The texts that a run prints, made a line at a time: of queries, of a finished union, of its answers, of a store that was cut, and of the
 //! reader's refusals.
 //!
 //! The definitions of the texts stand in `specs/`.
 #![tactic(auto)]
 
+mod answers;
 mod cuts;
 mod finished;
 pub mod laws;
@@ -12,7 +13,9 @@ mod refusals;
 #[cfg(test)]
 mod tests;
 
+pub use answers::{answer_line, answer_line_count, summary_line, summary_line_count};
 pub use cuts::{cut_line, cut_line_count};
 pub use finished::{finished_line, finished_line_count};
 pub use queries::query_text;
 pub use refusals::refusal_text;
+pub use ucq_eval::tuple_text;

@@ -1,28 +1,18 @@
 //! The texts of queries.
 ghost use Rattle.std.specs.Prelude.{◌≡◌, ◌++◌, codes, IfOk, OnOk};
 ghost use Rattle.std.specs.List.{flat_map};
-ghost use Rattle.ucq_print.specs.Texts.{answers_text, atom_text, joined, name_text, numbered_text, query_line as query_line_of, query_text, term_text, terms_text};
+ghost use Rattle.ucq_eval.specs.Tuples.{joined};
+ghost use Rattle.ucq_print.specs.Texts.{answers_text, atom_text, numbered_text, query_line as query_line_of, query_text, term_text, terms_text};
 
 use itoa::Buffer;
 use std::alloc::Global;
 use ucq_terms::{Atom, Names, NoMemory, Query, Term};
 
-/// The text of a name's number, which is nothing where the names don't hold it.
-fn name_text(names: &Names, number: u32) -> &[u8]
-    ensures { result.now ≡ name_text names.now number }
-{
-    if number < names.len() {
-        names.text(number)
-    } else {
-        b""
-    }
-}
-
 fn push_term(text: &mut Vec<u8>, names: &Names, term: Term) -> Result<(), NoMemory>
     ensures { OnOk result (text.new.items ≡ text.old.items ++ term_text names.now term) }
 {
     match term {
-        Term::Constant(number) => text.extend_from_slice(name_text(names, number))?,
+        Term::Constant(number) => text.extend_from_slice(names.text_or_empty(number))?,
         Term::Variable(number) => {
             text.push(b'X')?;
             text.extend_from_slice(Buffer::new().format(number).as_bytes())?;
@@ -68,7 +58,7 @@ fn push_terms(text: &mut Vec<u8>, names: &Names, terms: &[Term]) -> Result<(), N
 fn push_atom(text: &mut Vec<u8>, names: &Names, atom: &Atom) -> Result<(), NoMemory>
     ensures { OnOk result (text.new.items ≡ text.old.items ++ atom_text names.now atom.now) }
 {
-    text.extend_from_slice(name_text(names, atom.name()))?;
+    text.extend_from_slice(names.text_or_empty(atom.name()))?;
     push_terms(text, names, atom.terms())
 }
 

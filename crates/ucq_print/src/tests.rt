@@ -4,6 +4,7 @@ ghost use Rattle.ucq_reader.specs.declared.ReadFault.TheVariants as faults;
 use super::*;
 use std::alloc::Global;
 use std::test::Fail;
+use ucq_eval::Tuple;
 use ucq_reader::{Input, NotBuiltKind, ReadFault, Which, Whole, read_files};
 use ucq_terms::{NoMemory, Union};
 
@@ -35,6 +36,34 @@ fn a_query_is_printed_in_the_input_format(rt: HostRuntime) -> Result<(), Fail> {
         let input = read(alloc, file)?;
         let text = query_text(alloc, &input.names, &input.query)?;
         assert_eq!(rt; text.as_slice(), printed.as_bytes());
+    }
+    Ok(())
+}
+
+#[test]
+fn answers_and_counts_are_printed_a_line_at_a_time(rt: HostRuntime) -> Result<(), Fail> {
+    let alloc = rt.alloc();
+    let input = read(alloc, "? :- a(b).")?;
+    let mut tuples = Vec::new(alloc);
+    tuples.push(Tuple::new(Vec::from_slice(alloc, &[0, 1])?))?;
+    tuples.push(Tuple::new(Vec::new(alloc)))?;
+    assert_eq!(rt; answer_line_count(tuples.as_slice()), 3);
+    for (place, line) in ["% answers 2\n", "% (a,b)\n", "% ()\n"].iter().enumerate() {
+        let text = answer_line(alloc, &input.names, tuples.as_slice(), place as u64)?;
+        assert_eq!(rt; text.as_slice(), line.as_bytes());
+    }
+    assert_eq!(rt; summary_line_count(), 4);
+    for (place, line) in [
+        "% finished\n",
+        "% queries 3\n",
+        "% atoms 5\n",
+        "% answers 4\n",
+    ]
+    .iter()
+    .enumerate()
+    {
+        let text = summary_line(alloc, 3, 5, 4, place as u64)?;
+        assert_eq!(rt; text.as_slice(), line.as_bytes());
     }
     Ok(())
 }

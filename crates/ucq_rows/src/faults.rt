@@ -1,5 +1,5 @@
 //! Refusals, and faults of the outside.
-use crate::harness::{ends, run_on};
+use crate::harness::{ends, run_on, run_over};
 use std::test::Fail;
 
 const TWO_EDGES: &str = "? :- p(X,Y), p(Z,W).\n";
@@ -51,39 +51,85 @@ fn a_refused_file_has_its_line_and_no_output(rt: HostRuntime) -> Result<(), Fail
 
 #[test]
 fn words_that_stand_for_no_settings_are_refused(rt: HostRuntime) -> Result<(), Fail> {
-    let rows: [&[&str]; 9] = [
+    let rows: [&[&str]; 14] = [
         &[],
         &["-x"],
-        &["f", "f"],
-        &["--", "f"],
+        &["-h"],
         &["--budget", "0", "f"],
         &["--budget", "65537", "f"],
         &["--budget", "+1", "f"],
         &["--budget", "0000000001", "f"],
-        &["f", "--budget", "1"],
+        &["--budget", "1", "--budget", "1", "f"],
+        &["--workers", "0", "g"],
+        &["--workers", "65", "g"],
+        &["--make", "0"],
+        &["--make", "4001"],
+        &["--make", "1", "--answers"],
+        &["--make", "1", "f"],
     ];
     for words in rows {
-        let err = "ucq: usage: ucq FILE\n";
+        let err =
+            "ucq: usage: ucq [--workers N] [--budget N] [--answers] FILE... or ucq [--workers N] [--budget N] --make N\n";
         assert!(rt; ends(rt.alloc(), words, TWO_EDGES, 2, "", err)?);
     }
     Ok(())
 }
 
 #[test]
-fn budgets_of_the_whole_range_are_taken(rt: HostRuntime) -> Result<(), Fail> {
-    for budget in ["1", "65536", "000000009"] {
+fn options_stand_anywhere(rt: HostRuntime) -> Result<(), Fail> {
+    let rows: [&[&str]; 6] = [
+        &["--budget", "1", "f"],
+        &["--budget=65536", "f"],
+        &["f", "--budget", "000000009"],
+        &["--workers", "64", "f"],
+        &["--workers", "8", "--budget", "2", "--", "f"],
+        &["f"],
+    ];
+    for words in rows {
         let out = "% finished\n% queries 1\n? :- p(X0,X1).\n";
-        assert!(rt;
-            ends(
-                rt.alloc(),
-                &["--budget", budget, "f"],
-                TWO_EDGES,
-                0,
-                out,
-                ""
-            )?,
-            "{budget}"
-        );
+        assert!(rt; ends(rt.alloc(), words, TWO_EDGES, 0, out, "")?);
+    }
+    Ok(())
+}
+
+#[test]
+fn several_files_are_one_input(rt: HostRuntime) -> Result<(), Fail> {
+    let files: [(&str, &[u8]); 3] = [
+        ("rules", b"q(X) :- p(X)."),
+        ("query", b"?(X) :- q(X)."),
+        ("facts", b"p(a)."),
+    ];
+    let words = ["rules", "query", "--answers", "facts", "facts"];
+    let told = run_over(rt.alloc(), &words, &files, &[], &[])?;
+    assert_eq!(rt; told.status, 0);
+    assert_eq!(rt;
+        told.out.as_slice(),
+        b"% finished\n% queries 2\n?(X0) :- q(X0).\n?(X0) :- p(X0).\n% answers 1\n% (a)\n".as_slice()
+    );
+    Ok(())
+}
+
+#[test]
+fn the_first_file_that_is_refused_decides(rt: HostRuntime) -> Result<(), Fail> {
+    let files: [(&str, &[u8]); 2] = [("f", b"? :- p(X), ."), ("g", b"? :- p(X) & q(X).")];
+    let rows: [(&[&str], u8, &[u8]); 3] = [
+        (
+            &["f", "g"],
+            4,
+            b"ucq: file 0 statement 0 byte 11: bad statement\n",
+        ),
+        (&["g", "f"], 4, b"ucq: file 0 byte 10: bad byte\n"),
+        (
+            &["f", "missing"],
+            3,
+            b"ucq: read fault in file 1 at byte 0\n",
+        ),
+    ];
+    for (words, status, line) in rows {
+        let told = run_over(rt.alloc(), words, &files, &[], &[])?;
+        assert_eq!(rt; told.status, status);
+        assert_eq!(rt; told.out.len(), 0);
+        assert_eq!(rt; told.err.as_slice(), line);
     }
     Ok(())
 }
@@ -117,18 +163,19 @@ fn a_push_that_fails_leaves_the_lines_before_it(rt: HostRuntime) -> Result<(), F
 }
 
 #[test]
-fn a_file_has_at_most_67108864_bytes(rt: HostRuntime) -> Result<(), Fail> {
+fn files_have_at_most_67108864_bytes_together(rt: HostRuntime) -> Result<(), Fail> {
     let alloc = rt.alloc();
-    let mut file = vec![in alloc; b'%'; 67_108_864]?;
-    let told = run_on(alloc, &["f"], file.as_slice(), &[], &[])?;
-    assert_eq!(rt; told.status, 4);
-    assert_eq!(rt; told.err.as_slice(), b"ucq: no query\n".as_slice());
-    file.push(b'%')?;
-    let told = run_on(alloc, &["f"], file.as_slice(), &[], &[])?;
-    assert_eq!(rt; told.status, 4);
-    assert_eq!(rt;
-        told.err.as_slice(),
-        b"ucq: files too long at file 0\n".as_slice()
-    );
+    let file = vec![in alloc; b'%'; 67_108_864]?;
+    let files: [(&str, &[u8]); 2] = [("f", file.as_slice()), ("g", b"%")];
+    let rows: [(&[&str], &[u8]); 3] = [
+        (&["f"], b"ucq: no query\n"),
+        (&["f", "g"], b"ucq: files too long at file 1\n"),
+        (&["g", "f", "missing"], b"ucq: files too long at file 1\n"),
+    ];
+    for (words, line) in rows {
+        let told = run_over(alloc, words, &files, &[], &[])?;
+        assert_eq!(rt; told.status, 4);
+        assert_eq!(rt; told.err.as_slice(), line);
+    }
     Ok(())
 }

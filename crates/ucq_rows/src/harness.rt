@@ -26,17 +26,19 @@ fn sink(alloc: Global, failing: &[u64]) -> Result<MemorySink, AllocError> {
     }
 }
 
-/// Runs the words over one file, `f`. The calls of shelf and output in these lists fail.
-pub fn run_on(
+/// Runs the words over these files. The calls of shelf and output in the lists fail.
+pub fn run_over(
     alloc: Global,
     words: &[&str],
-    file: &[u8],
+    files: &[(&str, &[u8])],
     pulls: &[u64],
     pushes: &[u64],
 ) -> Result<Told, AllocError> {
-    let mut files = Vec::new(alloc);
-    files.push((String::from_str(alloc, "f")?, file.to_vec(alloc)?))?;
-    let mut shelf = MemoryShelf::new(files, pulls.to_vec(alloc)?);
+    let mut held = Vec::new(alloc);
+    for (name, bytes) in files {
+        held.push((String::from_str(alloc, name)?, bytes.to_vec(alloc)?))?;
+    }
+    let mut shelf = MemoryShelf::new(held, pulls.to_vec(alloc)?);
     let mut out = sink(alloc, pushes)?;
     let mut err = sink(alloc, &[])?;
     let words = words_of(alloc, words)?;
@@ -46,6 +48,17 @@ pub fn run_on(
         out: out.taken().to_vec(alloc)?,
         err: err.taken().to_vec(alloc)?,
     })
+}
+
+/// Runs the words over one file, `f`.
+pub fn run_on(
+    alloc: Global,
+    words: &[&str],
+    file: &[u8],
+    pulls: &[u64],
+    pushes: &[u64],
+) -> Result<Told, AllocError> {
+    run_over(alloc, words, &[("f", file)], pulls, pushes)
 }
 
 /// Whether a run of these words over the file ends so.

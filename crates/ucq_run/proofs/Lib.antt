@@ -1,5 +1,6 @@
 mod Told
-mod Digits
 mod Reported
 mod Printing
 mod Decided
+mod FilesRead
+mod OverFacts

@@ -1,5 +1,10 @@
 //! What a run comes to.
+ghost use Rattle.std.specs.Prelude.{◌≡◌};
+ghost use Rattle.ucq_run.specs.declared.outcome.Outcome.TheVariants.{NoMemory as WantOfMemory};
+
+use std::alloc::{AllocError, AllocFailed};
 use ucq_reader::ReadFault;
+use ucq_terms::NoMemory;
 
 /// What a run comes to, each with its status and its line on the error stream.
 #[derive(Drop)]
@@ -20,4 +25,28 @@ pub enum Outcome {
     Refused { fault: ReadFault },
     /// The output didn't take the text whole.
     WriteFault,
+}
+
+impl From<NoMemory> for Outcome {
+    ghost from_gives = { λ _ o. o ≡ WantOfMemory };
+
+    fn from(_error: NoMemory) -> Outcome {
+        Outcome::NoMemory
+    }
+}
+
+impl From<AllocError> for Outcome {
+    ghost from_gives = { λ _ o. o ≡ WantOfMemory };
+
+    fn from(_error: AllocError) -> Outcome {
+        Outcome::NoMemory
+    }
+}
+
+impl<T: Drop> From<AllocFailed<T>> for Outcome {
+    ghost from_gives = { λ _ o. o ≡ WantOfMemory };
+
+    fn from(_error: AllocFailed<T>) -> Outcome {
+        Outcome::NoMemory
+    }
 }

@@ -3,7 +3,8 @@ ghost use Rattle.std.specs.Prelude.{◌≡◌, ◌++◌, IfOk, codes, decimal, s
 ghost use Rattle.ucq_print.specs.Refusals.{refusal_line};
 ghost use Rattle.ucq_run.specs.declared.outcome.Outcome.TheVariants as outcomes;
 ghost use Rattle.ucq_run.specs.Outcomes.{outcome_line};
-ghost use Rattle.ucq_run.specs.Run.{IsReported, IsTold, TookLine};
+ghost use Rattle.ucq_run.specs.Output.{TookLine};
+ghost use Rattle.ucq_run.specs.Run.{IsReported, IsTold};
 
 use crate::outcome::Outcome;
 use crate::writing::write_line;
@@ -70,7 +71,11 @@ pub fn report<E: Sink>(alloc: Global, err: &mut E, outcome: Outcome) -> u8
         Outcome::Finished => 0,
         Outcome::Cut => 5,
         Outcome::NoMemory => tell(err, b"ucq: out of memory\n", 1),
-        Outcome::BadWords => tell(err, b"ucq: usage: ucq FILE\n", 2),
+        Outcome::BadWords => tell(
+            err,
+            b"ucq: usage: ucq [--workers N] [--budget N] [--answers] FILE... or ucq [--workers N] [--budget N] --make N\n",
+            2,
+        ),
         Outcome::ReadFault { file, at } => tell_made(err, read_fault_line(alloc, file, at), 3),
         Outcome::TooLong { file } => tell_made(err, too_long_line(alloc, file), 4),
         Outcome::Refused { fault } => tell_made(err, refused_line(alloc, fault), 4),

@@ -1,9 +1,13 @@
 //! The texts that a run prints, as lines that are made one at a time.
 ghost use Rattle.std.specs.Prelude.{◌≡◌, ◌<◌, ◌^◌, ℕ, List, length, slice_get, IfOk, Some};
-ghost use Rattle.ucq_print.specs.Texts.{cut_lines, finished_lines};
+ghost use Rattle.ucq_print.specs.Texts.{answered_lines, cut_lines, finished_lines, summary_lines};
 
 use std::alloc::Global;
-use ucq_print::{cut_line, cut_line_count, finished_line, finished_line_count};
+use ucq_eval::Tuple;
+use ucq_print::{
+    answer_line, answer_line_count, cut_line, cut_line_count, finished_line, finished_line_count,
+    summary_line, summary_line_count,
+};
 use ucq_store::Store;
 use ucq_terms::{Names, NoMemory, Union};
 
@@ -38,6 +42,51 @@ impl Text for FinishedText<'_> {
 
     fn line(&self, alloc: Global, place: u64) -> Result<Vec<u8>, NoMemory> {
         finished_line(alloc, self.names, self.union, place)
+    }
+}
+
+/// The finished text of a union with its answers.
+#[derive(Clone, Copy)]
+pub struct AnsweredText<'a> {
+    pub names: &'a Names,
+    pub union: &'a Union,
+    pub tuples: &'a [Tuple],
+}
+
+impl Text for AnsweredText<'_> {
+    ghost lines = { λ t. answered_lines t.names.now t.union.now t.tuples.now };
+
+    fn len(&self) -> u64 {
+        finished_line_count(self.union) + answer_line_count(self.tuples)
+    }
+
+    fn line(&self, alloc: Global, place: u64) -> Result<Vec<u8>, NoMemory> {
+        let first = finished_line_count(self.union);
+        if place < first {
+            finished_line(alloc, self.names, self.union, place)
+        } else {
+            answer_line(alloc, self.names, self.tuples, place - first)
+        }
+    }
+}
+
+/// The summary of a union and its answers.
+#[derive(Clone, Copy)]
+pub struct SummaryText {
+    pub queries: u64,
+    pub atoms: u64,
+    pub answers: u64,
+}
+
+impl Text for SummaryText {
+    ghost lines = { λ t. summary_lines t.queries t.atoms t.answers };
+
+    fn len(&self) -> u64 {
+        summary_line_count()
+    }
+
+    fn line(&self, alloc: Global, place: u64) -> Result<Vec<u8>, NoMemory> {
+        summary_line(alloc, self.queries, self.atoms, self.answers, place)
     }
 }
 

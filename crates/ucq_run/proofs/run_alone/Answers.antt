@@ -5,4 +5,4 @@ pub returns-clause-run : goal.returns-clause-run
 returns-clause-run g c = reported_is_run _ _ _ c.answer-outcome.result c.report.result c.answer-outcome.ensures.cause c.answer-outcome.ensures.prints c.report.ensures
 
 pub returns-clause-decided : goal.returns-clause-decided
-returns-clause-decided g c = IsDecided-run _ _ _ c.report.result (reported_is_run _ _ _ c.answer-outcome.result c.report.result c.answer-outcome.ensures.cause c.answer-outcome.ensures.prints c.report.ensures)
+returns-clause-decided g c = IsDecided-run c.one_settings.ensures _ _ _ c.report.result (reported_is_run _ _ _ c.answer-outcome.result c.report.result c.answer-outcome.ensures.cause c.answer-outcome.ensures.prints c.report.ensures)

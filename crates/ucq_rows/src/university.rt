@@ -1,0 +1,10 @@
+//! A small university: twelve rules on people, posts, departments and courses, and a query for the persons who work for a
+//! department.
+
+/// The file.
+pub const UNIVERSITY: &str =
+    "% a small university\n@prefix ub: <http://example.org/univ#>\n\n@facts\n[f1] ub:Professor(ann), ub:teaches(ann, ub:logic).\n[f2] ub:Lecturer(bob), ub:teaches(bob, \"Databases\"@en).\n[f3] ub:headOf(cat, maths).\n[f4] ub:Student(dan), ub:takes(dan, ub:logic), ub:advisor(dan, A).\n\n@rules\n[r1] ub:Faculty(X) :- ub:Professor(X).\n[r2] ub:Faculty(X) :- ub:Lecturer(X).\n[r3] ub:Employee(X) :- ub:Faculty(X).\n[r4] ub:Person(X) :- ub:Employee(X).\n[r5] ub:Person(X) :- ub:Student(X).\n[r6] ub:worksFor(X,D), ub:Department(D) :- ub:Employee(X).\n[r7] ub:worksFor(X,D) :- ub:headOf(X,D).\n[r8] ub:Professor(X) :- ub:headOf(X,D).\n[r9] ub:Department(D) :- ub:headOf(X,D).\n[r10] ub:Course(C) :- ub:teaches(X,C).\n[r11] ub:Faculty(X) :- ub:teaches(X,C).\n[r12] ub:advisor(X,P), ub:Professor(P) :- ub:Student(X).\n\n@queries\n[q] ?(X) :- ub:Person(X), ub:worksFor(X,D), ub:Department(D).\n";
+
+/// Its union: how many queries it has, and their lines.
+pub const UNION: &str =
+    "10\n?(X0) :- <http://example.org/univ#Person>(X0), <http://example.org/univ#worksFor>(X0,X1), <http://example.org/univ#Department>(X1).\n?(X0) :- <http://example.org/univ#Student>(X0), <http://example.org/univ#worksFor>(X0,X1), <http://example.org/univ#Department>(X1).\n?(X0) :- <http://example.org/univ#headOf>(X1,X2), <http://example.org/univ#Person>(X0), <http://example.org/univ#worksFor>(X0,X2).\n?(X0) :- <http://example.org/univ#Employee>(X0).\n?(X0) :- <http://example.org/univ#headOf>(X1,X2), <http://example.org/univ#Student>(X0), <http://example.org/univ#worksFor>(X0,X2).\n?(X0) :- <http://example.org/univ#Faculty>(X0).\n?(X0) :- <http://example.org/univ#Professor>(X0).\n?(X0) :- <http://example.org/univ#Lecturer>(X0).\n?(X0) :- <http://example.org/univ#teaches>(X0,X1).\n?(X0) :- <http://example.org/univ#headOf>(X0,X1).\n";

@@ -1,7 +1,0 @@
-use Rattle.std.proofs.Common.{◌∙◌}
-use Rattle.ucq_run.proofs.Printing.{same_rewriting}
-use Rattle.ucq_run.proofs.answers.rewrite.Goals as goal
-
-pub returns-in-Ok-alone : goal.returns-in-Ok-alone
-returns-in-Ok-alone g c =
-    same_rewriting _ _ _ _ _ _ c.print_store.result (c.in-Ok-alone.ensures.problem.0 ∙ c.new-problem.ensures) c.in-Ok-alone.ensures.problem.1 c.print_store.ensures

@@ -1,0 +1,185 @@
+//! From an input to the printed union, or the printed cut.
+ghost use Rattle.std.specs.Prelude.{◌≡◌, ◌<◌, ◌≤◌, ◌^◌, ◌⊎◌, ℕ, List, length, vec_len};
+ghost use Rattle.ucq_terms.specs.Syntax.{Atom as AtomValue, Problem as ProblemValue};
+ghost use Rattle.ucq_terms.specs.Union.{IsExact};
+ghost use Rattle.ucq_store.specs.Store.{IsCut, IsFinished};
+ghost use Rattle.ucq_store.specs.Lawful.{IsLawful};
+ghost use Rattle.ucq_reader.specs.Outcome.{input_value};
+ghost use Rattle.ucq_run.specs.Inputs.{problem_of};
+ghost use Rattle.ucq_run.specs.declared.form.Form.{Form as FormValue};
+ghost use Rattle.ucq_run.specs.declared.form.Form.TheVariants.{Queries, Answers, Counts};
+ghost use Rattle.ucq_run.specs.Output.{IsWrittenAs, PrintsFor};
+
+use crate::form::Form;
+use crate::outcome::Outcome;
+use crate::over_facts::{answers_over, atom_count};
+use crate::texts::{AnsweredText, CutText, FinishedText, SummaryText};
+use crate::writing::{Unwritten, write_text};
+use std::alloc::Global;
+use ucq_hom::HomSpace;
+use ucq_outside::Sink;
+use ucq_pool::alone;
+use ucq_reader::Input;
+use ucq_store::Store;
+use ucq_store::laws::cut_listing;
+use ucq_terms::{Atom, Names, NoMemory, Problem, Union};
+
+/// The outcome of writing, which is this one where all was written.
+fn written(answer: Result<(), Unwritten>, whole: Outcome) -> Outcome
+    ensures { IsWrittenAs answer whole result }
+{
+    match answer {
+        Ok(()) => whole,
+        Err(Unwritten::Failed) => Outcome::WriteFault,
+        Err(Unwritten::Memory) => Outcome::NoMemory,
+    }
+}
+
+/// Prints the queries of an exact union.
+fn print_queries<K: Sink>(
+    alloc: Global,
+    names: &Names,
+    union: &Union,
+    facts: &[Atom],
+    out: &mut K,
+) -> Outcome
+    ensures { (problem : ProblemValue) (budget : ℕ) → IsExact problem union.now →
+        PrintsFor (record { form = Queries; names = names.now; problem = problem; facts = facts.now; budget = budget })
+        (record { taken_before = K.taken out.old; taken_after = K.taken out.new; faults_before = K.faults out.old; faults_after = K.faults out.new }) result }
+{
+    let text = FinishedText { names, union };
+    written(write_text(alloc, out, &text), Outcome::Finished)
+}
+
+/// Prints the queries of an exact union, and its answers over the facts.
+fn print_answers<K: Sink>(
+    alloc: Global,
+    names: &Names,
+    union: &Union,
+    facts: Vec<Atom>,
+    out: &mut K,
+) -> Outcome
+    requires { vec_len facts ≤ 2 ^ 20 }
+    ensures { (problem : ProblemValue) (budget : ℕ) → IsExact problem union.now →
+        PrintsFor (record { form = Answers; names = names.now; problem = problem; facts = facts.items; budget = budget })
+        (record { taken_before = K.taken out.old; taken_after = K.taken out.new; faults_before = K.faults out.old; faults_after = K.faults out.new }) result }
+{
+    let tuples = match answers_over(alloc, union, names, facts) {
+        Ok(tuples) => tuples,
+        Err(NoMemory) => return Outcome::NoMemory,
+    };
+    let text = AnsweredText {
+        names,
+        union,
+        tuples: tuples.as_slice(),
+    };
+    written(write_text(alloc, out, &text), Outcome::Finished)
+}
+
+/// Prints how many queries and atoms an exact union has, and how many answers over the facts.
+fn print_counts<K: Sink>(
+    alloc: Global,
+    names: &Names,
+    union: &Union,
+    facts: Vec<Atom>,
+    out: &mut K,
+) -> Outcome
+    requires { vec_len facts ≤ 2 ^ 20 }
+    ensures { (problem : ProblemValue) (budget : ℕ) → IsExact problem union.now →
+        PrintsFor (record { form = Counts; names = names.now; problem = problem; facts = facts.items; budget = budget })
+        (record { taken_before = K.taken out.old; taken_after = K.taken out.new; faults_before = K.faults out.old; faults_after = K.faults out.new }) result }
+{
+    let tuples = match answers_over(alloc, union, names, facts) {
+        Ok(tuples) => tuples,
+        Err(NoMemory) => return Outcome::NoMemory,
+    };
+    let text = SummaryText {
+        queries: u64::from(union.len()),
+        atoms: atom_count(union),
+        answers: tuples.len() as u64,
+    };
+    written(write_text(alloc, out, &text), Outcome::Finished)
+}
+
+/// Prints an exact union in this form.
+fn print_union<K: Sink>(
+    alloc: Global,
+    names: &Names,
+    union: &Union,
+    facts: Vec<Atom>,
+    form: Form,
+    out: &mut K,
+) -> Outcome
+    requires { vec_len facts ≤ 2 ^ 20 }
+    ensures { (problem : ProblemValue) (budget : ℕ) → IsExact problem union.now →
+        PrintsFor (record { form = form; names = names.now; problem = problem; facts = facts.items; budget = budget })
+        (record { taken_before = K.taken out.old; taken_after = K.taken out.new; faults_before = K.faults out.old; faults_after = K.faults out.new }) result }
+{
+    match form {
+        Form::Queries => print_queries(alloc, names, union, facts.as_slice(), out),
+        Form::Answers => print_answers(alloc, names, union, facts, out),
+        Form::Counts => print_counts(alloc, names, union, facts, out),
+    }
+}
+
+/// Prints a cut store.
+fn print_cut<K: Sink>(alloc: Global, names: &Names, store: &Store, out: &mut K) -> Outcome
+    requires lawful { IsLawful store.now }
+    requires cut { IsCut store.now }
+    ensures { (form : FormValue) (facts : List AtomValue) →
+        PrintsFor (record { form = form; names = names.now; problem = store.now.problem; facts = facts; budget = store.now.budget })
+        (record { taken_before = K.taken out.old; taken_after = K.taken out.new; faults_before = K.faults out.old; faults_after = K.faults out.new }) result }
+{
+    cut_listing();
+    let text = CutText { names, store };
+    written(write_text(alloc, out, &text), Outcome::Cut)
+}
+
+/// Prints the union of a finished store in this form, or a cut store.
+fn print_store<K: Sink>(
+    alloc: Global,
+    names: &Names,
+    store: Store,
+    facts: Vec<Atom>,
+    form: Form,
+    out: &mut K,
+) -> Outcome
+    requires ended { IsFinished store ⊎ IsCut store }
+    requires facts { vec_len facts ≤ 2 ^ 20 }
+    ensures { PrintsFor (record { form = form; names = names.now; problem = store.entry.problem; facts = facts.items; budget = store.entry.budget })
+        (record { taken_before = K.taken out.old; taken_after = K.taken out.new; faults_before = K.faults out.old; faults_after = K.faults out.new }) result }
+{
+    if store.is_finished() {
+        let union = store.into_union();
+        print_union(alloc, names, &union, facts, form, out)
+    } else {
+        print_cut(alloc, names, &store, out)
+    }
+}
+
+/// Rewrites the input's query with its rules, and prints the union in this form, or the cut.
+pub fn solve<K: Sink>(alloc: Global, input: Input, budget: u32, form: Form, out: &mut K) -> Outcome
+    requires rules { length (input_value input).rules ≤ 4096 }
+    requires facts { length (input_value input).facts ≤ 2 ^ 20 }
+    requires some { 0 < budget }
+    requires small { budget ≤ 65536 }
+    ensures { PrintsFor
+        (record { form = form; names = (input_value input).names; problem = problem_of (input_value input); facts = (input_value input).facts; budget = budget })
+        (record { taken_before = K.taken out.old; taken_after = K.taken out.new; faults_before = K.faults out.old; faults_after = K.faults out.new }) result }
+{
+    let Input {
+        names,
+        rules,
+        query,
+        facts,
+    } = input;
+    let problem = Problem::new(rules, query);
+    let mut space = match HomSpace::new(alloc) {
+        Ok(space) => space,
+        Err(NoMemory) => return Outcome::NoMemory,
+    };
+    match alone(alloc, &mut space, &problem, budget) {
+        Ok(store) => print_store(alloc, &names, store, facts, form, out),
+        Err(NoMemory) => Outcome::NoMemory,
+    }
+}
