@@ -1,5 +1,5 @@
 -- What is read and printed decides on the status.
-use Rattle.std.proofs.Common.{◌≡◌, ◌≢◌, ◌<◌, ◌≤◌, ◌+◌, ◌^◌, ◌⊎◌, ◌↔◌, ℕ, zero, suc, List, [], ◌∷◌, ◌++◌, length, take, inl, inr, refl, sym, ap, ap₂, subst, ◌∙◌, arith}
+use Rattle.std.proofs.Common.{◌≡◌, ◌≢◌, ◌<◌, ◌≤◌, ◌+◌, ◌^◌, ◌⊎◌, ℕ, zero, suc, List, [], ◌∷◌, ◌++◌, length, take, inl, inr, refl, sym, ap, ap₂, subst, ◌∙◌, arith}
 use Rattle.std.proofs.Math.Seq.{take-length}
 use Rattle.std.proofs.lemmas.List.Sums.{sum_by-cons}
 use Rattle.std.specs.Prelude.{Option, Some, None, IfSome, Ok, Err, slice_get}
@@ -15,7 +15,7 @@ use Rattle.ucq_run.specs.declared.outcome.Outcome.TheVariants.{Finished, Cut, No
 use Rattle.ucq_run.specs.Outcomes.{status_of}
 use Rattle.ucq_run.specs.Inputs.{Call, AreRead, IsAsked, IsInputOf, IsReadInput}
 use Rattle.ucq_run.specs.Causes.{AreRefusedFor, IsCause, IsTooLong, NameFiles}
-use Rattle.ucq_run.specs.Output.{SinkChange, TookAll, TookPrefix, IsEarly, question_of, PrintsAsked, PrintsFor, Prints}
+use Rattle.ucq_run.specs.Output.{SinkChange, TookAll, TookPrefix, question_of, PrintsAsked, PrintsFor, Prints}
 use Rattle.ucq_run.specs.Run.{AreReadable, AreRefused, IsAnswered, IsDecided, IsReported, IsRun, TellsFiles}
 
 -- files that stand for an input aren't refused

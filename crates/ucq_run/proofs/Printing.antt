@@ -1,5 +1,5 @@
 -- What was written for a question.
-use Rattle.std.proofs.Common.{◌≡◌, ◌<◌, ℕ, List, length, inl, inr, refl, sym, subst}
+use Rattle.std.proofs.Common.{◌≡◌, ℕ, List, inl, inr, refl, sym, subst}
 use Rattle.std.specs.Prelude.{◌⊎◌, Option, Some, None, IsSome, Result, Ok, Err}
 use Rattle.ucq_terms.specs.Syntax.{Atom, Problem, Query}
 use Rattle.ucq_terms.specs.Union.{IsExact}

@@ -1,5 +1,5 @@
 -- Told bytes, step by step.
-use Rattle.std.proofs.Common.{refl, min, suc, get_or, subst, ◌∙◌, ◌≡◌, ◌≤◌, ◌<◌, ◌++◌, ◌+◌, ◌-◌, ℕ, List, [], ◌∷◌, length, take, drop, arith, append_assoc, ap, sym, length-drop}
+use Rattle.std.proofs.Common.{refl, min, suc, get_or, subst, ◌∙◌, ◌≡◌, ◌≤◌, ◌<◌, ◌++◌, ◌+◌, ◌-◌, ℕ, List, [], ◌∷◌, length, take, drop, arith, append_assoc, ap, sym}
 use Rattle.std.proofs.lemmas.Grind.{common_steps}
 use Rattle.std.proofs.lemmas.List.{append-nil, take-append-drop, take_at, take_more, drop_at}
 use Rattle.std.proofs.lemmas.Grind.{flat_map-append}

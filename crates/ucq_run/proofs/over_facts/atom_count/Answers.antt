@@ -1,4 +1,4 @@
-use Rattle.std.proofs.Common.{arith, length, ap, ◌∙◌, ◌≡◌, ◌≤◌, ◌+◌}
+use Rattle.std.proofs.Common.{arith, length, ap, ◌≤◌}
 use Rattle.ucq_run.proofs.OverFacts.{atoms_more, once_more}
 use Rattle.ucq_run.proofs.over_facts.atom_count.Goals as goal
 

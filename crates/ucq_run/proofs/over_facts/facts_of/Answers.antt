@@ -1,4 +1,4 @@
-use Rattle.std.proofs.Common.{arith, rules, length, ◌∷◌, []}
+use Rattle.std.proofs.Common.{arith, rules, ◌∷◌, []}
 use Rattle.std.proofs.lemmas.List.{length-append}
 use Rattle.ucq_run.proofs.OverFacts.{one_fact_more, one_longer}
 use Rattle.ucq_run.proofs.over_facts.facts_of.Goals as goal

@@ -1,5 +1,5 @@
-use Rattle.std.proofs.Common.{length, ◌-◌, ◌≡◌, ◌≤◌, ◌++◌, ◌+◌, ℕ, List, take, vec_len}
-use Rattle.std.specs.Prelude.{Option, Some, IfSome}
+use Rattle.std.proofs.Common.{length, ◌-◌, ◌≡◌, ◌≤◌, ◌+◌, ℕ, List, take, vec_len}
+use Rattle.std.specs.Prelude.{IfSome}
 use Rattle.ucq_run.proofs.reading.read_file.Given as goal
 
 abbrev pub invariant-loop-piece : goal.invariant-loop-piece

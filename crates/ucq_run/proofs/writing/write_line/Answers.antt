@@ -1,4 +1,4 @@
-use Rattle.std.proofs.Common.{rules, arith, ◌≡◌}
+use Rattle.std.proofs.Common.{rules}
 use Rattle.ucq_run.proofs.Told.{goes_on}
 use Rattle.ucq_run.proofs.writing.write_line.Goals as goal
 

@@ -1,5 +1,5 @@
 use Rattle.std.proofs.Common.{length, ◌-◌, ◌≡◌, ◌≤◌, ◌++◌, ℕ, List, take}
-use Rattle.std.specs.Prelude.{Option, Some, IfSome}
+use Rattle.std.specs.Prelude.{Some, IfSome}
 use Rattle.ucq_run.proofs.writing.write_line.Given as goal
 
 abbrev pub invariant-loop-done : goal.invariant-loop-done

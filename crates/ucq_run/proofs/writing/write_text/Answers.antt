@@ -1,4 +1,4 @@
-use Rattle.std.proofs.Common.{arith, ◌≤◌, ◌<◌}
+use Rattle.std.proofs.Common.{arith}
 use Rattle.ucq_run.proofs.Told.{stays_within, stops_in_line, takes_line}
 use Rattle.ucq_run.proofs.writing.write_text.Goals as goal
 
