@@ -1,0 +1,11 @@
+pub mod Times
+pub mod Totals
+pub mod Sums
+pub mod Moves
+pub mod Draws
+pub mod Asks
+pub mod Halves
+pub mod Fits
+pub mod Ends
+pub mod Marks
+pub mod Told
