@@ -3,8 +3,8 @@
 
 use std::process::ExitCode;
 use std::{env, io};
-use ucq_outside::{FileShelf, StreamSink};
-use ucq_run::run_alone;
+use ucq_outside::{FileShelf, OpenGate, StreamSink};
+use ucq_run::run;
 
 /// The words after the program's name.
 fn words_of(rt: &HostRuntime) -> io::Result<Vec<String>> {
@@ -29,6 +29,14 @@ fn main(rt: HostRuntime) -> ExitCode {
     let mut shelf = FileShelf::new(&rt);
     let mut out = StreamSink::out(&rt);
     let mut err = StreamSink::err(&rt);
-    let status = run_alone(rt.alloc(), words.as_slice(), &mut shelf, &mut out, &mut err);
+    let status = run(
+        &rt,
+        rt.alloc(),
+        words.as_slice(),
+        &mut shelf,
+        &mut out,
+        &mut err,
+        &OpenGate,
+    );
     ExitCode::from(status)
 }

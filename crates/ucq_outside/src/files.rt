@@ -62,3 +62,17 @@ pub trait Sink {
         ensures taken { Takes (taken self.old) (taken self.new) piece.now result }
         ensures cause { HasCause (faults self.old) (faults self.new) result };
 }
+
+/// What a worker passes between the claim of a row and the publication of what it found, so that a test can hold it there.
+pub trait Gate {
+    /// Returns when the worker of this number may go on with this row.
+    fn pass(&self, worker: u32, row: u32);
+}
+
+/// A gate that holds nobody.
+#[derive(Clone, Copy, Debug)]
+pub struct OpenGate;
+
+impl Gate for OpenGate {
+    fn pass(&self, _worker: u32, _row: u32) {}
+}

@@ -1,4 +1,5 @@
-//! What a program reads and writes through: shelves of files and sinks for bytes, in memory and of the system.
+//! What a program reads and writes through: shelves of files and sinks for bytes, in memory and of the system; and the gates
+//! that its workers pass.
 #![tactic(auto)]
 
 mod files;
@@ -6,7 +7,7 @@ mod memory;
 mod shelves;
 mod streams;
 
-pub use files::{Failed, NoMemoryOutside, Shelf, Sink};
+pub use files::{Failed, Gate, NoMemoryOutside, OpenGate, Shelf, Sink};
 pub use memory::{MemorySink, ROOM, SureSink};
 pub use shelves::{MemoryShelf, SureShelf};
 pub use streams::{FileShelf, StandardError, StreamSink};

@@ -1,5 +1,5 @@
 -- What one advance of a store at rest does.
-use Rattle.std.proofs.Common.{◌≡◌, ℕ, ◌+◌, ◌-◌, ◌*◌, ◌^◌, ◌≤◌, ◌⊎◌, inl, inr, sym, ap, subst, Bool, true, false, not, Option, None, Some, arith}
+use Rattle.std.proofs.Common.{◌≡◌, ℕ, ◌+◌, ◌-◌, ◌*◌, ◌^◌, ◌<◌, ◌≤◌, ◌⊎◌, inl, inr, sym, ap, subst, Bool, true, false, not, Option, None, Some, arith}
 use Rattle.std.specs.Option.{is_some, MatchOption}
 use Rattle.ucq_store.specs.declared.Cut.{Cut}
 use Rattle.ucq_store.specs.Store.{Store, IsCut}
@@ -50,6 +50,5 @@ none_advances s now after more rest none raise = go none.1 more (subst (λ (t : 
     go (inr (inl closed)) true up = risen s rest after up
     go (inr (inl closed)) false up = inl (finished s rest after closed up)
     go (inr (inr last)) more up =
-        let few : s.claims + work_left s ≤ 3 * s.budget = rest.few_claims in
-        let small : s.budget ≤ 65536 = rest.small in
+        let few : s.claims + work_left s < 2 ^ 64 - 1 = rest.few_claims in
         absurd (omega arith)

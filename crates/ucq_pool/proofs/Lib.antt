@@ -3,5 +3,7 @@ pub mod Found
 pub mod Sums
 pub mod Work
 pub mod Rising
+pub mod Rested
 pub mod Explored
 pub mod Advanced
+pub mod Enough

@@ -1,5 +1,5 @@
 -- A store at rest without an open row rises, or is finished.
-use Rattle.std.proofs.Common.{◌≡◌, ◌≢◌, ℕ, ◌+◌, ◌*◌, ◌<◌, ◌≤◌, refl, sym, ap, ◌∙◌, subst, Bool, true, false, length, arith}
+use Rattle.std.proofs.Common.{◌≡◌, ◌≢◌, ℕ, ◌+◌, ◌*◌, ◌^◌, ◌-◌, ◌<◌, ◌≤◌, refl, sym, ap, ◌∙◌, subst, Bool, true, false, length, arith}
 use Rattle.ucq_store.specs.declared.Mark.{Mark}
 use Rattle.ucq_store.specs.declared.RowState.{RowState}
 use Rattle.ucq_store.specs.declared.RowState.TheVariants.{Waiting, Open, Claimed, Done, Skipped}
@@ -65,14 +65,13 @@ module _ (s : Store) (rest : IsAtRest s) where
       let two : mark_work (mark_at s.marks row) ≡ 2 = ap work_of waits in
       let less : work_of_marks marks < work_of_marks s.marks =
       sum_less mark_work no_mark s.marks marks row is.count no_more (subst (λ (n : ℕ). row < n) (sym rest.marked) row_of) (omega (arith, one, two)) in
-      let few : s.claims + work_left s ≤ 3 * s.budget = rest.few_claims in
+      let few : s.claims + work_left s < 2 ^ 64 - 1 = rest.few_claims in
       subst (GoesOn s) (sym same) (record {
         at_rest = record {
           uncut = rest.uncut;
           marked = is.count ∙ rest.marked;
           unclaimed = λ k number l e. rest.unclaimed k number l (raised_claim (state_of s k) (row_at s.rows k).live number (sym (state k l) ∙ e));
           few_claims = omega (arith, less, few);
-          small = rest.small;
         };
         less = omega (arith, less);
       })

@@ -1,5 +1,5 @@
 -- The work that is left falls with each claim and each risen level.
-use Rattle.std.proofs.Common.{◌≡◌, ◌≢◌, ℕ, ◌+◌, ◌*◌, ◌<◌, ◌≤◌, inl, inr, refl, sym, ap, ◌∙◌, subst, List, [], ◌∷◌, ◌++◌, length, Option, Some, None, arith}
+use Rattle.std.proofs.Common.{◌≡◌, ◌≢◌, ℕ, ◌+◌, ◌*◌, ◌^◌, ◌-◌, ◌<◌, ◌≤◌, inl, inr, refl, sym, ap, ◌∙◌, subst, List, [], ◌∷◌, ◌++◌, length, Option, Some, None, arith}
 use Rattle.std.proofs.lemmas.Bool.{cases_eq, cases_lt}
 use Rattle.std.proofs.lemmas.List.{get_or-set_same, get_or-set_other, length-set, length-append, get_or_append_left}
 use Rattle.std.proofs.lemmas.List.Sums.{sum_by-set, sum_by_push}
@@ -121,7 +121,7 @@ done_at_rest start s row rest was =
     let less : work_left s < work_left start = was.less in
     let claims : s.claims ≡ start.claims + 1 = was.claims in
     let budget : s.budget ≡ start.budget = was.task.budget in
-    let few : start.claims + work_left start ≤ 3 * start.budget = rest.few_claims in
+    let few : start.claims + work_left start < 2 ^ 64 - 1 = rest.few_claims in
     record {
       at_rest = record {
         uncut = was.uncut;
@@ -134,7 +134,6 @@ done_at_rest start s row rest was =
           | inr differs ↦ was.others other number l differs (sym (other_state s row Done was.marked was.row_of other differs) ∙ e)
         ];
         few_claims = omega (arith, work, idle, less, claims, budget, few);
-        small = subst (λ (n : ℕ). n ≤ 65536) (sym budget) rest.small;
       };
       less = omega (arith, work, idle, less);
     }

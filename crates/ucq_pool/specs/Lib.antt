@@ -1,2 +1,3 @@
 pub mod Rewritings
 pub mod Progress
+pub mod Shared

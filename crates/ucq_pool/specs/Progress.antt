@@ -1,5 +1,5 @@
 -- What is left to do for a store.
-use Rattle.std.specs.Prelude.{◌≡◌, ◌≢◌, ℕ, ◌+◌, ◌-◌, ◌*◌, ◌<◌, ◌≤◌, ◌⊎◌, Bool, true, false, List, length, Option, None}
+use Rattle.std.specs.Prelude.{◌≡◌, ◌≢◌, ℕ, ◌+◌, ◌-◌, ◌*◌, ◌^◌, ◌<◌, ◌≤◌, ◌⊎◌, Bool, true, false, List, length, Option, None}
 use Rattle.std.specs.List.{sum_by}
 use Rattle.ucq_terms.specs.Syntax.{Query}
 use Rattle.ucq_store.specs.declared.Mark.{Mark}
@@ -25,13 +25,12 @@ work_of_marks marks = sum_by (λ (m : Mark). work_of m.state) marks
 abbrev pub work_left : Store → ℕ
 work_left s = 3 * (s.budget - length s.rows) + work_of_marks s.marks
 
--- The store isn't cut and no row of it is claimed. The claims given and what is left to do are at most three for each row.
+-- The store isn't cut and no row of it is claimed, and there are numbers enough for the claims that are left.
 pub record IsAtRest (s : Store) : Type 0 where
   pub uncut : s.cut ≡ None
   pub marked : length s.marks ≡ length s.rows
   pub unclaimed : (row number : ℕ) → IsRow s row → state_of s row ≢ Claimed number
-  pub few_claims : s.claims + work_left s ≤ 3 * s.budget
-  pub small : s.budget ≤ 65536
+  pub few_claims : s.claims + work_left s < 2 ^ 64 - 1
 
 -- Cores were taken, and then the row is done or the store is cut.
 pub record IsExplored (s : Store) (row : ℕ) (after : Store) : Type 0 where

@@ -7,8 +7,8 @@ use Rattle.std.specs.Global.{Vec}
 use Rattle.ucq_store.specs.Candidates.{Candidate, plain}
 use Rattle.ucq_store.specs.Lawful.{IsCoreOfOneStep}
 use Rattle.ucq_store.specs.Reports.{Report, AreFound, HasWideStep}
-use Rattle.ucq_pool.specs.declared.Fault.{Fault}
-use Rattle.ucq_pool.specs.declared.Fault.TheVariants.{Wide, Memory}
+use Rattle.ucq_pool.specs.declared.rewritings.Fault.{Fault}
+use Rattle.ucq_pool.specs.declared.rewritings.Fault.TheVariants.{Wide, Memory}
 
 -- Candidates that no store has taken. Their cores are cores of one-step rewritings of the query, and cover all of these with
 -- the rules below that number.

@@ -1,7 +1,7 @@
 //! Runs over files and sinks in memory.
 use std::alloc::{AllocError, Global};
-use ucq_outside::{MemoryShelf, MemorySink, NoMemoryOutside};
-use ucq_run::run_alone;
+use ucq_outside::{Gate, MemoryShelf, MemorySink, NoMemoryOutside};
+use ucq_run::{run, run_alone};
 
 /// What a run answered, printed and told.
 #[derive(Drop)]
@@ -26,7 +26,20 @@ fn sink(alloc: Global, failing: &[u64]) -> Result<MemorySink, AllocError> {
     }
 }
 
-/// Runs the words over these files. The calls of shelf and output in the lists fail.
+/// A shelf that holds these files. The pulls in the list fail.
+fn shelf(
+    alloc: Global,
+    files: &[(&str, &[u8])],
+    pulls: &[u64],
+) -> Result<MemoryShelf, AllocError> {
+    let mut held = Vec::new(alloc);
+    for (name, bytes) in files {
+        held.push((String::from_str(alloc, name)?, bytes.to_vec(alloc)?))?;
+    }
+    Ok(MemoryShelf::new(held, pulls.to_vec(alloc)?))
+}
+
+/// Runs the words alone over these files. The calls of shelf and output in the lists fail.
 pub fn run_over(
     alloc: Global,
     words: &[&str],
@@ -34,11 +47,7 @@ pub fn run_over(
     pulls: &[u64],
     pushes: &[u64],
 ) -> Result<Told, AllocError> {
-    let mut held = Vec::new(alloc);
-    for (name, bytes) in files {
-        held.push((String::from_str(alloc, name)?, bytes.to_vec(alloc)?))?;
-    }
-    let mut shelf = MemoryShelf::new(held, pulls.to_vec(alloc)?);
+    let mut shelf = shelf(alloc, files, pulls)?;
     let mut out = sink(alloc, pushes)?;
     let mut err = sink(alloc, &[])?;
     let words = words_of(alloc, words)?;
@@ -50,7 +59,35 @@ pub fn run_over(
     })
 }
 
-/// Runs the words over one file, `f`.
+/// Runs the words over one file, `f`, with workers that pass the gate.
+pub fn run_crew<G: Gate + Sync>(
+    rt: &HostRuntime,
+    words: &[&str],
+    file: &[u8],
+    gate: &G,
+) -> Result<Told, AllocError> {
+    let alloc = rt.alloc();
+    let mut shelf = shelf(alloc, &[("f", file)], &[])?;
+    let mut out = sink(alloc, &[])?;
+    let mut err = sink(alloc, &[])?;
+    let words = words_of(alloc, words)?;
+    let status = run(
+        rt,
+        alloc,
+        words.as_slice(),
+        &mut shelf,
+        &mut out,
+        &mut err,
+        gate,
+    );
+    Ok(Told {
+        status,
+        out: out.taken().to_vec(alloc)?,
+        err: err.taken().to_vec(alloc)?,
+    })
+}
+
+/// Runs the words alone over one file, `f`.
 pub fn run_on(
     alloc: Global,
     words: &[&str],

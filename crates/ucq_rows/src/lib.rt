@@ -6,8 +6,12 @@ mod answers;
 #[cfg(test)]
 mod faults;
 #[cfg(test)]
+mod gates;
+#[cfg(test)]
 mod harness;
 #[cfg(test)]
 mod rewritings;
 #[cfg(test)]
 mod university;
+#[cfg(test)]
+mod workers;

@@ -6,17 +6,20 @@ use Rattle.std.specs.Prelude.{Option, Some, None, IfSome, Ok, Err, slice_get}
 use Rattle.std.specs.List.{AllZip}
 use Rattle.ucq_outside.specs.Causes.{Rose}
 use Rattle.ucq_reader.specs.declared.ReadFault.{ReadFault}
-use Rattle.ucq_reader.specs.Input.{InputValue, IsInput, IsRefused}
+use Rattle.ucq_store.specs.Laws.{IsEnough}
+use Rattle.ucq_reader.specs.Input.{InputValue, IsInput, IsNumbered, IsRefused}
+use Rattle.ucq_reader.specs.Made.{made}
 use Rattle.ucq_reader.specs.Outcome.{byte_count}
 use Rattle.ucq_reader.proofs.Refusals.{meaning_unique}
 use Rattle.ucq_words.specs.Settings.{JobValue, files, make, SettingsValue, StandFor, OneSettings}
 use Rattle.ucq_run.specs.declared.outcome.Outcome.{Outcome}
 use Rattle.ucq_run.specs.declared.outcome.Outcome.TheVariants.{Finished, Cut, NoMemory, BadWords, ReadFault as ReadFaultAt, TooLong, Refused, WriteFault}
 use Rattle.ucq_run.specs.Outcomes.{status_of}
-use Rattle.ucq_run.specs.Inputs.{Call, AreRead, IsAsked, IsInputOf, IsReadInput}
+use Rattle.ucq_run.specs.Inputs.{Call, AreRead, IsAsked, IsInputOf, IsReadInput, problem_of}
 use Rattle.ucq_run.specs.Causes.{AreRefusedFor, IsCause, IsTooLong, NameFiles}
 use Rattle.ucq_run.specs.Output.{SinkChange, TookAll, TookPrefix, question_of, PrintsAsked, PrintsFor, Prints}
-use Rattle.ucq_run.specs.Run.{AreReadable, AreRefused, IsAnswered, IsDecided, IsReported, IsRun, TellsFiles}
+use Rattle.ucq_run.specs.Run.{AreReadable, AreRefused, IsAnswered, IsDecided, IsReported, IsRun, TellsFiles, HasEnough, IsFinishedOrWanting, IsFullRun}
+use Rattle.ucq_run.proofs.OneProblem.{enough_of_files, enough_of_numbered}
 
 -- files that stand for an input aren't refused
 input_or_refusal : (texts : List (List ℕ)) (input : InputValue) (fault : ReadFault) → IsInput texts input → IsRefused texts fault → ⊥
@@ -209,13 +212,58 @@ module _ (one : OneSettings) where
   only_made call out (Refused fault) settings number stand job sure cause prints = absurd (not_made call cause.0 settings number cause.1 stand job)
   only_made call out WriteFault settings number stand job sure cause prints = absurd (sure (write_fault call out prints))
 
+  -- ---- a budget that is enough
+
+  -- a cut comes only where the budget isn't enough for what was asked
+  cut_is_short : (call : Call) (out : SinkChange) (o : Outcome) → status_of o ≡ 5 → Prints call out o → (p : PrintsAsked call out o) × ¬ IsEnough (problem_of p.input) p.settings.budget
+  cut_is_short call out Cut e (inl p) = (p, p.prints.1.short)
+  cut_is_short call out Cut e (inr h) = absurd h.0
+  cut_is_short call out Finished e prints = absurd (omega arith)
+  cut_is_short call out NoMemory e prints = absurd (omega arith)
+  cut_is_short call out BadWords e prints = absurd (omega arith)
+  cut_is_short call out (ReadFaultAt file at) e prints = absurd (omega arith)
+  cut_is_short call out (TooLong file) e prints = absurd (omega arith)
+  cut_is_short call out (Refused fault) e prints = absurd (omega arith)
+  cut_is_short call out WriteFault e prints = absurd (omega arith)
+
+  not_cut : (status : ℕ) → (status ≡ 5 → ⊥) → IsAnswered status → IsFinishedOrWanting status
+  not_cut status other (inl (inl e)) = inl e
+  not_cut status other (inl (inr e)) = absurd (other e)
+  not_cut status other (inr e) = inr e
+
+  only_finished : (call : Call) (out : SinkChange) (o : Outcome) (texts : List (List ℕ)) (settings : SettingsValue) (input : InputValue) → TellsFiles call texts →
+      ¬ Rose out.faults_before out.faults_after → byte_count texts ≤ 2 ^ 26 → IsInput texts input → HasEnough call settings input →
+      IsCause call o → Prints call out o → IsFinishedOrWanting (status_of o)
+  only_finished call out o texts settings input told sure short is enough cause prints =
+      not_cut (status_of o) (λ e.
+          let (p, isnt) = cut_is_short call out o e prints in
+          let same : settings ≡ p.settings = one call.words settings p.settings enough.stand p.asked.stand in
+          isnt (enough_of_files texts input p.input p.settings.budget is (asked_told call p.settings p.input texts p.asked told).1
+          (subst (λ (s : SettingsValue). IsEnough (problem_of input) s.budget) same enough.enough)))
+      (only_answered call out o texts told sure (short, (input, is)) cause prints)
+
+  only_finished_made : (call : Call) (out : SinkChange) (o : Outcome) (settings : SettingsValue) (number : ℕ) (input : InputValue) → settings.job ≡ make number →
+      ¬ Rose out.faults_before out.faults_after → IsInputOf call.held settings.job input → HasEnough call settings input →
+      IsCause call o → Prints call out o → IsFinishedOrWanting (status_of o)
+  only_finished_made call out o settings number input job sure is enough cause prints =
+      not_cut (status_of o) (λ e.
+          let (p, isnt) = cut_is_short call out o e prints in
+          let same : settings ≡ p.settings = one call.words settings p.settings enough.stand p.asked.stand in
+          let here : IsNumbered (made number) input = subst (λ (j : JobValue). IsInputOf call.held j input) job is in
+          let asked : IsNumbered (made number) p.input = subst (λ (j : JobValue). IsInputOf call.held j p.input) (sym (ap (λ (s : SettingsValue). s.job) same) ∙ job) p.asked.has in
+          isnt (enough_of_numbered (made number) input p.input p.settings.budget here asked
+          (subst (λ (s : SettingsValue). IsEnough (problem_of input) s.budget) same enough.enough)))
+      (only_made call out o settings number enough.stand job sure cause prints)
+
   -- A run's status is decided so.
   pub IsDecided-run : (call : Call) (out err : SinkChange) (answer : ℕ) → IsRun call out err answer → IsDecided call out answer
   IsDecided-run call out err answer r = subst (λ (n : ℕ). IsDecided call out n) (sym r.status) (record {
     words = λ other. (λ e. bad_words call r.outcome e r.cause, only_bad_words call out r.outcome other r.cause r.prints);
     refused = λ texts told other. (λ e. refused_files call r.outcome texts told e r.cause, only_refused call out r.outcome texts told other r.cause r.prints);
     answered = λ texts told sure readable. only_answered call out r.outcome texts told sure readable r.cause r.prints;
+    finished = λ texts settings input told sure short is enough. only_finished call out r.outcome texts settings input told sure short is enough r.cause r.prints;
     made = λ settings number stand job sure. only_made call out r.outcome settings number stand job sure r.cause r.prints;
+    finished_made = λ settings number input job sure is enough. only_finished_made call out r.outcome settings number input job sure is enough r.cause r.prints;
   })
 
 -- ---- what is reported
@@ -248,7 +296,7 @@ prints_some call out o (inl p) = inl (asked_some call out o p)
 prints_some call out o (inr h) = inr (tt, h.1)
 
 -- An outcome that has its cause, and is reported, is a run.
-pub reported_is_run : (call : Call) (out err : SinkChange) (o : Outcome) (answer : ℕ) → IsCause call o → Prints call out o → IsReported err o answer → IsRun call out err answer
+reported_is_run : (call : Call) (out err : SinkChange) (o : Outcome) (answer : ℕ) → IsCause call o → Prints call out o → IsReported err o answer → IsRun call out err answer
 reported_is_run call out err o answer cause prints r = go r.same
   where
     go : (r.told ≡ o) ⊎ (r.told ≡ NoMemory) → IsRun call out err answer
@@ -266,3 +314,9 @@ reported_is_run call out err o answer cause prints r = go r.same
       prints = subst (λ (t : Outcome). Prints call out t) (sym h) (prints_some call out o prints);
       line = r.line;
     }
+
+-- And its status is decided.
+pub reported_is_full_run : OneSettings → (call : Call) (out err : SinkChange) (o : Outcome) (answer : ℕ) → IsCause call o → Prints call out o → IsReported err o answer → IsFullRun call out err answer
+reported_is_full_run one call out err o answer cause prints r =
+    let run = reported_is_run call out err o answer cause prints r in
+    record { run = run; decided = IsDecided-run one call out err answer run }

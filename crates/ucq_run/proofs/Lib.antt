@@ -1,6 +1,7 @@
 mod Told
 mod Reported
 mod Printing
+mod OneProblem
 mod Decided
 mod FilesRead
 mod OverFacts

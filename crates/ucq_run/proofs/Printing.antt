@@ -6,8 +6,8 @@ use Rattle.ucq_terms.specs.Union.{IsExact}
 use Rattle.ucq_store.specs.declared.Cut.{Cut as StoreCut}
 use Rattle.ucq_store.specs.declared.Cut.TheVariants.{Rows, Wide}
 use Rattle.ucq_store.specs.Store.{Store, IsCut}
-use Rattle.ucq_store.specs.Lawful.{IsLawful, HasCause}
-use Rattle.ucq_store.specs.Laws.{CutListing}
+use Rattle.ucq_store.specs.Lawful.{IsLawful, IsLawfulByLevels, HasCause}
+use Rattle.ucq_store.specs.Laws.{CutListing, EnoughBudget, IsEnough}
 use Rattle.ucq_print.specs.Texts.{lines_text, cut_lines, lines_of_cut}
 use Rattle.ucq_run.specs.declared.form.Form.{Form}
 use Rattle.ucq_run.specs.declared.outcome.Outcome.{Outcome}
@@ -69,12 +69,19 @@ cut_says listing names s lawful cut = go s.cut cut lawful.cut_has_cause
 abbrev pub question_with : Question → Store → Question
 question_with q s = record q { problem = s.problem; budget = s.budget }
 
-pub prints_cut : CutListing → (q : Question) (out : SinkChange) (s : Store) (answer : Result (Unit {0}) Unwritten) (outcome : Outcome) → IsLawful s → IsCut s →
-    IsWritten out.taken_before out.taken_after out.faults_before out.faults_after (lines_text (cut_lines q.names s)) answer → IsWrittenAs answer Cut outcome →
+-- where the budget is enough the store isn't cut
+not_enough : EnoughBudget → (s : Store) → IsLawfulByLevels s → IsCut s → ¬ IsEnough s.problem s.budget
+not_enough enough s lawful cut h =
+    let bad : IsSome {X = StoreCut} None = subst (λ (c : Option StoreCut). IsSome c) (enough s h.last h.members lawful h.ends h.fits).0 cut in
+    absurd cc
+
+pub prints_cut : CutListing → EnoughBudget → (q : Question) (out : SinkChange) (s : Store) (answer : Result (Unit {0}) Unwritten) (outcome : Outcome) → IsLawfulByLevels s →
+    IsCut s → IsWritten out.taken_before out.taken_after out.faults_before out.faults_after (lines_text (cut_lines q.names s)) answer → IsWrittenAs answer Cut outcome →
     PrintsFor (question_with q s) out outcome
-prints_cut listing q out s answer outcome lawful cut w is =
-    let says : IsCutText q.names s.problem s.budget (lines_text (cut_lines q.names s)) = cut_says listing q.names s lawful cut in
-    prints_written (question_with q s) out (lines_text (cut_lines q.names s)) answer Cut outcome (inr says) (λ took. (lines_text (cut_lines q.names s), says, took)) w is
+prints_cut listing enough q out s answer outcome lawful cut w is =
+    let text : List ℕ = lines_text (cut_lines q.names s) in
+    let says : IsCutTextOf (question_with q s) text = record { cut = cut_says listing q.names s lawful.lawful cut; short = not_enough enough s lawful cut } in
+    prints_written (question_with q s) out text answer Cut outcome (inr says) (λ took. (text, says, took)) w is
 
 -- of the same problem and budget
 pub same_question : (q : Question) (p : Problem) (b : ℕ) (out : SinkChange) (o : Outcome) → q.problem ≡ p → q.budget ≡ b →

@@ -16,6 +16,9 @@ pub record Call : Type 0 where
   pub faults_before : ℕ
   pub faults_after : ℕ
 
+abbrev pub call_of : List (List ℕ) → (List ℕ → Option (List ℕ)) → ℕ → ℕ → Call
+call_of words held before after = record { words = words; held = held; faults_before = before; faults_after = after }
+
 -- The texts of the files with these names, in their order: as the shelf tells them, where it does, and not too long together.
 pub record AreRead (held : List ℕ → Option (List ℕ)) (names texts : List (List ℕ)) : Type 0 where
   pub told : AllZip (λ (name text : List ℕ). IfSome (held name) (λ file. text ≡ file)) names texts

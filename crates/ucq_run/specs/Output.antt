@@ -11,7 +11,7 @@ use Rattle.ucq_terms.specs.Union.{IsExact}
 use Rattle.ucq_antichain.specs.declared.Row.{Row}
 use Rattle.ucq_antichain.specs.Rows.{query_at}
 use Rattle.ucq_store.specs.Lawful.{IsCoreOfOneStep, IsSoundCore}
-use Rattle.ucq_store.specs.Laws.{IsCutListing}
+use Rattle.ucq_store.specs.Laws.{IsCutListing, IsEnough}
 use Rattle.ucq_reader.specs.Input.{InputValue}
 use Rattle.ucq_eval.specs.Answers.{constants}
 use Rattle.ucq_eval.specs.Tuples.{tuple_cmp}
@@ -31,6 +31,9 @@ pub record SinkChange : Type 0 where
   pub taken_after : Option (List ℕ)
   pub faults_before : ℕ
   pub faults_after : ℕ
+
+abbrev pub change_of : Option (List ℕ) → Option (List ℕ) → ℕ → ℕ → SinkChange
+change_of taken taken_now faults faults_now = record { taken_before = taken; taken_after = taken_now; faults_before = faults; faults_after = faults_now }
 
 -- where it tells, the sink took just this text
 abbrev pub TookAll : SinkChange → List ℕ → Type 0
@@ -113,8 +116,10 @@ pub record IsWideCutText (names : List (List ℕ)) (problem : Problem) (text : L
 abbrev pub IsCutText : List (List ℕ) → Problem → ℕ → List ℕ → Type 0
 IsCutText names problem budget text = IsRowsCutText names problem budget text ⊎ IsWideCutText names problem text
 
-abbrev pub IsCutTextOf : Question → List ℕ → Type 0
-IsCutTextOf q text = IsCutText q.names q.problem q.budget text
+-- the text of a cut, which comes only where the budget isn't enough
+pub record IsCutTextOf (q : Question) (text : List ℕ) : Type 0 where
+  pub cut : IsCutText q.names q.problem q.budget text
+  pub short : ¬ IsEnough q.problem q.budget
 
 -- ---- what is printed
 

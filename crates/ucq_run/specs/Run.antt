@@ -4,12 +4,13 @@ use Rattle.std.specs.Global.{Vec}
 use Rattle.std.specs.List.{AllZip}
 use Rattle.ucq_outside.specs.Causes.{Rose}
 use Rattle.ucq_reader.specs.declared.ReadFault.{ReadFault}
+use Rattle.ucq_store.specs.Laws.{IsEnough}
 use Rattle.ucq_reader.specs.Input.{InputValue, IsInput, IsRefused}
 use Rattle.ucq_reader.specs.Outcome.{byte_count}
 use Rattle.ucq_words.specs.Settings.{SettingsValue, StandFor, make}
 use Rattle.ucq_run.specs.declared.outcome.Outcome.{Outcome}
 use Rattle.ucq_run.specs.declared.outcome.Outcome.TheVariants.{NoMemory}
-use Rattle.ucq_run.specs.Inputs.{Call}
+use Rattle.ucq_run.specs.Inputs.{Call, IsInputOf, problem_of}
 use Rattle.ucq_run.specs.Causes.{IsCause, NameFiles}
 use Rattle.ucq_run.specs.Output.{SinkChange, TookLine, Prints}
 use Rattle.ucq_run.specs.Outcomes.{outcome_line, status_of}
@@ -56,11 +57,40 @@ AreReadable texts = (byte_count texts ≤ 2 ^ 26) × ((input : InputValue) × Is
 abbrev pub IsAnswered : ℕ → Type 0
 IsAnswered status = ((status ≡ 0) ⊎ (status ≡ 5)) ⊎ (status ≡ 1)
 
+-- finished, or want of memory
+abbrev pub IsFinishedOrWanting : ℕ → Type 0
+IsFinishedOrWanting status = (status ≡ 0) ⊎ (status ≡ 1)
+
+-- The words stand for settings whose budget is enough for the problem of the input.
+pub record HasEnough (call : Call) (settings : SettingsValue) (input : InputValue) : Type 0 where
+  pub stand : StandFor call.words settings
+  pub enough : IsEnough (problem_of input) settings.budget
+
 -- Up to want of memory the words decide on status 2; where the shelf tells the files and doesn't fail, their bytes decide
 -- between a refusal and an answer; and where the output doesn't fail either, files that stand for an input are answered,
--- and so is an input that is made.
+-- and so is an input that is made. Where the budget is enough for the problem, the answer isn't a cut.
 pub record IsDecided (call : Call) (out : SinkChange) (status : ℕ) : Type 0 where
   pub words : status ≢ 1 → (status ≡ 2) ↔ ((settings : SettingsValue) → StandFor call.words settings → ⊥)
   pub refused : (texts : List (List ℕ)) → TellsFiles call texts → status ≢ 1 → (status ≡ 4) ↔ AreRefused texts
   pub answered : (texts : List (List ℕ)) → TellsFiles call texts → ¬ Rose out.faults_before out.faults_after → AreReadable texts → IsAnswered status
+  pub finished :
+      (texts : List (List ℕ)) (settings : SettingsValue) (input : InputValue) →
+      TellsFiles call texts →
+      ¬ Rose out.faults_before out.faults_after →
+      byte_count texts ≤ 2 ^ 26 →
+      IsInput texts input →
+      HasEnough call settings input →
+      IsFinishedOrWanting status
   pub made : (settings : SettingsValue) (number : ℕ) → StandFor call.words settings → settings.job ≡ make number → ¬ Rose out.faults_before out.faults_after → IsAnswered status
+  pub finished_made :
+      (settings : SettingsValue) (number : ℕ) (input : InputValue) →
+      settings.job ≡ make number →
+      ¬ Rose out.faults_before out.faults_after →
+      IsInputOf call.held settings.job input →
+      HasEnough call settings input →
+      IsFinishedOrWanting status
+
+-- What is said of a top call: it is a run, and its status is decided so.
+pub record IsFullRun (call : Call) (out err : SinkChange) (answer : ℕ) : Type 0 where
+  pub run : IsRun call out err answer
+  pub decided : IsDecided call out answer

@@ -1,27 +1,30 @@
 //! From the words to the outcome.
 ghost use Rattle.std.specs.Prelude.{map, string_bytes};
 ghost use Rattle.ucq_run.specs.Causes.{IsCause};
-ghost use Rattle.ucq_run.specs.Output.{Prints};
+ghost use Rattle.ucq_run.specs.Inputs.{call_of};
+ghost use Rattle.ucq_run.specs.Output.{change_of, Prints};
 
 use crate::form::form_of;
 use crate::inputs::input_of;
 use crate::outcome::Outcome;
+use crate::solver::Solver;
 use crate::solving::solve;
 use std::alloc::Global;
 use ucq_outside::{Shelf, Sink};
 use ucq_words::{WordsFault, settings};
 
 /// Answers the words: reads their files, or makes their input, rewrites its query, and prints what is found.
-pub fn answer<H: Shelf, K: Sink>(
+pub fn answer<H: Shelf, K: Sink, S: Solver>(
     alloc: Global,
     words: &[String],
     shelf: &mut H,
     out: &mut K,
+    solver: &S,
 ) -> Outcome
-    ensures cause { IsCause (record { words = map string_bytes words.now; held = H.held shelf.old; faults_before = H.faults shelf.old; faults_after = H.faults shelf.new }) result }
+    ensures cause { IsCause (call_of (map string_bytes words.now) (H.held shelf.old) (H.faults shelf.old) (H.faults shelf.new)) result }
     ensures prints { Prints
-        (record { words = map string_bytes words.now; held = H.held shelf.old; faults_before = H.faults shelf.old; faults_after = H.faults shelf.new })
-        (record { taken_before = K.taken out.old; taken_after = K.taken out.new; faults_before = K.faults out.old; faults_after = K.faults out.new })
+        (call_of (map string_bytes words.now) (H.held shelf.old) (H.faults shelf.old) (H.faults shelf.new))
+        (change_of (K.taken out.old) (K.taken out.new) (K.faults out.old) (K.faults out.new))
         result }
 {
     let settings = match settings(alloc, words) {
@@ -31,7 +34,15 @@ pub fn answer<H: Shelf, K: Sink>(
     };
     let form = form_of(&settings);
     match input_of(alloc, shelf, &settings.job) {
-        Ok(input) => solve(alloc, input, settings.budget, form, out),
+        Ok(input) => solve(
+            alloc,
+            input,
+            settings.budget,
+            settings.workers,
+            form,
+            out,
+            solver,
+        ),
         Err(outcome) => outcome,
     }
 }

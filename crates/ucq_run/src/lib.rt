@@ -1,8 +1,10 @@
-//! The top call: from the words of the command line to the printed union and its answers.
+//! The top calls: from the words of the command line to the printed union and its answers.
 #![tactic(auto)]
 
-ghost use Rattle.std.specs.Prelude.{◌≡◌, map, string_bytes};
-ghost use Rattle.ucq_run.specs.Run.{IsDecided, IsRun};
+ghost use Rattle.std.specs.Prelude.{map, string_bytes};
+ghost use Rattle.ucq_run.specs.Inputs.{call_of};
+ghost use Rattle.ucq_run.specs.Output.{change_of};
+ghost use Rattle.ucq_run.specs.Run.{IsFullRun};
 
 mod answers;
 mod form;
@@ -11,24 +13,54 @@ mod outcome;
 mod over_facts;
 mod reading;
 mod reports;
+mod solver;
 mod solving;
 mod texts;
 mod writing;
 
+use crate::solver::{Alone, Crew};
 use std::alloc::Global;
-use ucq_outside::{Shelf, Sink};
+use std::sync::Wait;
+use std::thread::Threads;
+use ucq_outside::{Gate, Shelf, Sink};
 use ucq_words::one_settings;
 
 /// Reads the files that the words name, rewrites their query with their rules, and prints the union, with its answers over
 /// their facts where these are asked for; or makes an input and prints how many queries, atoms and answers there are.
 ///
 /// The words are `[--workers N] [--budget N] [--answers] FILE...` or `[--workers N] [--budget N] --make N`, with 1 to 64
-/// workers, of whom one works here; a budget of 1 to 65,536 rows, 4,096 where none is given; 1 to 64 files of 67,108,864
+/// workers, 1 where none are given; a budget of 1 to 65,536 rows, 4,096 where none is given; 1 to 64 files of 67,108,864
 /// bytes together; and a number of 1 to 4,000 for the made input. All files are read before any of them is refused.
 ///
 /// The answer is the status: 0 where the finished text of an exact union was taken whole; 5 where the text of a cut was; 1
 /// for want of memory; 2 where the words stand for no settings; 3 where the shelf failed; 4 where the files are too long or
 /// the reader refuses them; 6 where the output failed. Each status but 0 and 5 has its line on the error stream.
+///
+/// The workers rewrite in threads of their own, and pass the gate between the claim of a row and the publication of what
+/// they found. With more than one worker the call waits for their threads and for the lock of their store, so its return
+/// isn't promised.
+pub fn run<H: Shelf, K: Sink, E: Sink, G: Gate + Sync, R: Threads + Wait + Sync>(
+    rt: &R,
+    alloc: Global,
+    words: &[String],
+    shelf: &mut H,
+    out: &mut K,
+    err: &mut E,
+    gate: &G,
+) -> u8
+    ensures { IsFullRun
+        (call_of (map string_bytes words.now) (H.held shelf.old) (H.faults shelf.old) (H.faults shelf.new))
+        (change_of (K.taken out.old) (K.taken out.new) (K.faults out.old) (K.faults out.new))
+        (change_of (E.taken err.old) (E.taken err.new) (E.faults err.old) (E.faults err.new))
+        result }
+{
+    one_settings();
+    let crew = Crew { rt, gate };
+    let outcome = answers::answer(alloc, words, shelf, out, &crew);
+    reports::report(alloc, err, outcome)
+}
+
+/// The same on one thread, whatever number of workers the words give. It takes no handle, and always returns.
 pub fn run_alone<H: Shelf, K: Sink, E: Sink>(
     alloc: Global,
     words: &[String],
@@ -36,42 +68,13 @@ pub fn run_alone<H: Shelf, K: Sink, E: Sink>(
     out: &mut K,
     err: &mut E,
 ) -> u8
-    ensures run { IsRun
-        (record {
-          words = map string_bytes words.now;
-          held = H.held shelf.old;
-          faults_before = H.faults shelf.old;
-          faults_after = H.faults shelf.new;
-        })
-        (record {
-          taken_before = K.taken out.old;
-          taken_after = K.taken out.new;
-          faults_before = K.faults out.old;
-          faults_after = K.faults out.new;
-        })
-        (record {
-          taken_before = E.taken err.old;
-          taken_after = E.taken err.new;
-          faults_before = E.faults err.old;
-          faults_after = E.faults err.new;
-        })
-        result }
-    ensures decided { IsDecided
-        (record {
-          words = map string_bytes words.now;
-          held = H.held shelf.old;
-          faults_before = H.faults shelf.old;
-          faults_after = H.faults shelf.new;
-        })
-        (record {
-          taken_before = K.taken out.old;
-          taken_after = K.taken out.new;
-          faults_before = K.faults out.old;
-          faults_after = K.faults out.new;
-        })
+    ensures { IsFullRun
+        (call_of (map string_bytes words.now) (H.held shelf.old) (H.faults shelf.old) (H.faults shelf.new))
+        (change_of (K.taken out.old) (K.taken out.new) (K.faults out.old) (K.faults out.new))
+        (change_of (E.taken err.old) (E.taken err.new) (E.faults err.old) (E.faults err.new))
         result }
 {
     one_settings();
-    let outcome = answers::answer(alloc, words, shelf, out);
+    let outcome = answers::answer(alloc, words, shelf, out, &Alone);
     reports::report(alloc, err, outcome)
 }

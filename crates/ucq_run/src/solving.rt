@@ -3,25 +3,24 @@ ghost use Rattle.std.specs.Prelude.{◌≡◌, ◌<◌, ◌≤◌, ◌^◌, ◌�
 ghost use Rattle.ucq_terms.specs.Syntax.{Atom as AtomValue, Problem as ProblemValue};
 ghost use Rattle.ucq_terms.specs.Union.{IsExact};
 ghost use Rattle.ucq_store.specs.Store.{IsCut, IsFinished};
-ghost use Rattle.ucq_store.specs.Lawful.{IsLawful};
+ghost use Rattle.ucq_store.specs.Lawful.{IsLawfulByLevels};
 ghost use Rattle.ucq_reader.specs.Outcome.{input_value};
 ghost use Rattle.ucq_run.specs.Inputs.{problem_of};
 ghost use Rattle.ucq_run.specs.declared.form.Form.{Form as FormValue};
 ghost use Rattle.ucq_run.specs.declared.form.Form.TheVariants.{Queries, Answers, Counts};
-ghost use Rattle.ucq_run.specs.Output.{IsWrittenAs, PrintsFor};
+ghost use Rattle.ucq_run.specs.Output.{change_of, IsWrittenAs, PrintsFor};
 
 use crate::form::Form;
 use crate::outcome::Outcome;
 use crate::over_facts::{answers_over, atom_count};
+use crate::solver::Solver;
 use crate::texts::{AnsweredText, CutText, FinishedText, SummaryText};
 use crate::writing::{Unwritten, write_text};
 use std::alloc::Global;
-use ucq_hom::HomSpace;
 use ucq_outside::Sink;
-use ucq_pool::alone;
 use ucq_reader::Input;
 use ucq_store::Store;
-use ucq_store::laws::cut_listing;
+use ucq_store::laws::{cut_listing, enough_budget};
 use ucq_terms::{Atom, Names, NoMemory, Problem, Union};
 
 /// The outcome of writing, which is this one where all was written.
@@ -45,7 +44,7 @@ fn print_queries<K: Sink>(
 ) -> Outcome
     ensures { (problem : ProblemValue) (budget : ℕ) → IsExact problem union.now →
         PrintsFor (record { form = Queries; names = names.now; problem = problem; facts = facts.now; budget = budget })
-        (record { taken_before = K.taken out.old; taken_after = K.taken out.new; faults_before = K.faults out.old; faults_after = K.faults out.new }) result }
+        (change_of (K.taken out.old) (K.taken out.new) (K.faults out.old) (K.faults out.new)) result }
 {
     let text = FinishedText { names, union };
     written(write_text(alloc, out, &text), Outcome::Finished)
@@ -62,7 +61,7 @@ fn print_answers<K: Sink>(
     requires { vec_len facts ≤ 2 ^ 20 }
     ensures { (problem : ProblemValue) (budget : ℕ) → IsExact problem union.now →
         PrintsFor (record { form = Answers; names = names.now; problem = problem; facts = facts.items; budget = budget })
-        (record { taken_before = K.taken out.old; taken_after = K.taken out.new; faults_before = K.faults out.old; faults_after = K.faults out.new }) result }
+        (change_of (K.taken out.old) (K.taken out.new) (K.faults out.old) (K.faults out.new)) result }
 {
     let tuples = match answers_over(alloc, union, names, facts) {
         Ok(tuples) => tuples,
@@ -87,7 +86,7 @@ fn print_counts<K: Sink>(
     requires { vec_len facts ≤ 2 ^ 20 }
     ensures { (problem : ProblemValue) (budget : ℕ) → IsExact problem union.now →
         PrintsFor (record { form = Counts; names = names.now; problem = problem; facts = facts.items; budget = budget })
-        (record { taken_before = K.taken out.old; taken_after = K.taken out.new; faults_before = K.faults out.old; faults_after = K.faults out.new }) result }
+        (change_of (K.taken out.old) (K.taken out.new) (K.faults out.old) (K.faults out.new)) result }
 {
     let tuples = match answers_over(alloc, union, names, facts) {
         Ok(tuples) => tuples,
@@ -113,7 +112,7 @@ fn print_union<K: Sink>(
     requires { vec_len facts ≤ 2 ^ 20 }
     ensures { (problem : ProblemValue) (budget : ℕ) → IsExact problem union.now →
         PrintsFor (record { form = form; names = names.now; problem = problem; facts = facts.items; budget = budget })
-        (record { taken_before = K.taken out.old; taken_after = K.taken out.new; faults_before = K.faults out.old; faults_after = K.faults out.new }) result }
+        (change_of (K.taken out.old) (K.taken out.new) (K.faults out.old) (K.faults out.new)) result }
 {
     match form {
         Form::Queries => print_queries(alloc, names, union, facts.as_slice(), out),
@@ -124,13 +123,14 @@ fn print_union<K: Sink>(
 
 /// Prints a cut store.
 fn print_cut<K: Sink>(alloc: Global, names: &Names, store: &Store, out: &mut K) -> Outcome
-    requires lawful { IsLawful store.now }
+    requires lawful { IsLawfulByLevels store.now }
     requires cut { IsCut store.now }
     ensures { (form : FormValue) (facts : List AtomValue) →
         PrintsFor (record { form = form; names = names.now; problem = store.now.problem; facts = facts; budget = store.now.budget })
-        (record { taken_before = K.taken out.old; taken_after = K.taken out.new; faults_before = K.faults out.old; faults_after = K.faults out.new }) result }
+        (change_of (K.taken out.old) (K.taken out.new) (K.faults out.old) (K.faults out.new)) result }
 {
     cut_listing();
+    enough_budget();
     let text = CutText { names, store };
     written(write_text(alloc, out, &text), Outcome::Cut)
 }
@@ -147,7 +147,7 @@ fn print_store<K: Sink>(
     requires ended { IsFinished store ⊎ IsCut store }
     requires facts { vec_len facts ≤ 2 ^ 20 }
     ensures { PrintsFor (record { form = form; names = names.now; problem = store.entry.problem; facts = facts.items; budget = store.entry.budget })
-        (record { taken_before = K.taken out.old; taken_after = K.taken out.new; faults_before = K.faults out.old; faults_after = K.faults out.new }) result }
+        (change_of (K.taken out.old) (K.taken out.new) (K.faults out.old) (K.faults out.new)) result }
 {
     if store.is_finished() {
         let union = store.into_union();
@@ -158,14 +158,24 @@ fn print_store<K: Sink>(
 }
 
 /// Rewrites the input's query with its rules, and prints the union in this form, or the cut.
-pub fn solve<K: Sink>(alloc: Global, input: Input, budget: u32, form: Form, out: &mut K) -> Outcome
+pub fn solve<K: Sink, S: Solver>(
+    alloc: Global,
+    input: Input,
+    budget: u32,
+    workers: u32,
+    form: Form,
+    out: &mut K,
+    solver: &S,
+) -> Outcome
     requires rules { length (input_value input).rules ≤ 4096 }
     requires facts { length (input_value input).facts ≤ 2 ^ 20 }
     requires some { 0 < budget }
     requires small { budget ≤ 65536 }
+    requires one { 0 < workers }
+    requires few { workers ≤ 64 }
     ensures { PrintsFor
         (record { form = form; names = (input_value input).names; problem = problem_of (input_value input); facts = (input_value input).facts; budget = budget })
-        (record { taken_before = K.taken out.old; taken_after = K.taken out.new; faults_before = K.faults out.old; faults_after = K.faults out.new }) result }
+        (change_of (K.taken out.old) (K.taken out.new) (K.faults out.old) (K.faults out.new)) result }
 {
     let Input {
         names,
@@ -174,11 +184,7 @@ pub fn solve<K: Sink>(alloc: Global, input: Input, budget: u32, form: Form, out:
         facts,
     } = input;
     let problem = Problem::new(rules, query);
-    let mut space = match HomSpace::new(alloc) {
-        Ok(space) => space,
-        Err(NoMemory) => return Outcome::NoMemory,
-    };
-    match alone(alloc, &mut space, &problem, budget) {
+    match solver.solve(alloc, &problem, budget, workers) {
         Ok(store) => print_store(alloc, &names, store, facts, form, out),
         Err(NoMemory) => Outcome::NoMemory,
     }

@@ -71,6 +71,13 @@ pub record LevelsEnd (problem : Problem) (last : ℕ) (members : List Query) : T
       HasWidth result.atoms width →
       width ≤ ATOMS
 
+-- the levels end, and the budget has room for as many rows as they have members
+pub record IsEnough (problem : Problem) (budget : ℕ) : Type 0 where
+  pub last : ℕ
+  pub members : List Query
+  pub ends : LevelsEnd problem last members
+  pub fits : length members ≤ budget
+
 -- where the levels end, a store whose budget is at least the number of members isn't cut, and no row is deeper than the last level
 abbrev pub EnoughBudget : Type 0
 EnoughBudget =

@@ -1,5 +1,5 @@
 //! The store.
-ghost use Rattle.std.specs.Prelude.{◌≡◌, ◌<◌, ◌≤◌, length, MatchOption, IfOk, IsTrue, ◌↔◌, Some, None, false};
+ghost use Rattle.std.specs.Prelude.{◌≡◌, ◌<◌, ◌≤◌, length, MatchOption, IfOk, IfSome, IsTrue, ◌↔◌, Some, None, false};
 ghost use Rattle.ucq_terms.specs.Homomorphism.{IsCoreOf};
 ghost use Rattle.ucq_terms.specs.Union.{IsExact};
 ghost use Rattle.ucq_hom.specs.Space.{IsClear};
@@ -124,7 +124,8 @@ impl<'p> Store<'p> {
 
     /// The cut, if the store is cut.
     pub fn cut(&self) -> Option<&Cut>
-        ensures { MatchOption result (self.now.cut ≡ None) (λ cut. self.now.cut ≡ Some cut.now) }
+        ensures cut { MatchOption result (self.now.cut ≡ None) (λ cut. self.now.cut ≡ Some cut.now) }
+        ensures lawful { IsLawfulByLevels self.now }
     {
         self.cut.as_ref()
     }
@@ -164,7 +165,8 @@ impl<'p> Store<'p> {
     /// Claims the first open row, under the number of claims given before. `None` comes where the store is cut, no row is
     /// open, or the number is at the last `u64`. The search goes on where the last one ended.
     pub fn claim(&mut self) -> Option<Claim>
-        ensures { DoesClaim self.old result self.new }
+        ensures does { DoesClaim self.old result self.new }
+        ensures row { IfSome result (λ claim. IsRow self.old claim.row) }
     {
         if self.cut.is_some() || self.claims == u64::MAX {
             return None;

@@ -1,6 +1,6 @@
 use Rattle.std.proofs.Common.{sym, ◌∙◌}
 use Rattle.ucq_pool.proofs.Explored.{explored}
-use Rattle.ucq_pool.proofs.explore.Goals as goal
+use Rattle.ucq_pool.proofs.solo.explore.Goals as goal
 
 pub returns-clause-explored : goal.returns-clause-explored
 returns-clause-explored c =

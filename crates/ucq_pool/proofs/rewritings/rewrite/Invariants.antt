@@ -1,6 +1,6 @@
 use Rattle.ucq_hom.specs.Space.{IsClear}
 use Rattle.ucq_pool.specs.Rewritings.{AreFoundBelow}
-use Rattle.ucq_pool.proofs.rewrite.Given as goal
+use Rattle.ucq_pool.proofs.rewritings.rewrite.Given as goal
 
 abbrev pub invariant-loop-number : goal.invariant-loop-number
 invariant-loop-number l = record {

@@ -2,7 +2,7 @@ use Rattle.std.proofs.Common.{subst}
 use Rattle.ucq_step.specs.declared.StepFault.{StepFault}
 use Rattle.ucq_step.specs.Steps.{IsStepFault}
 use Rattle.ucq_pool.proofs.Found.{found_more, wide_step}
-use Rattle.ucq_pool.proofs.rewrite_with.Goals as goal
+use Rattle.ucq_pool.proofs.rewritings.rewrite_with.Goals as goal
 
 pub returns-in_ok-propose-in-Ok-clause-found : goal.returns-in_ok-propose-in-Ok-clause-found
 returns-in_ok-propose-in-Ok-clause-found c =

@@ -1,0 +1,310 @@
+//! Rounds of workers, one for each level.
+ghost use Rattle.std.specs.Prelude.{◌≡◌, ◌+◌, ◌<◌, ◌≤◌, ◌⊎◌, All, IfOk, length, vec_len};
+ghost use Rattle.ucq_board.specs.Values.{IsOf};
+ghost use Rattle.ucq_hom.specs.Space.{IsClear};
+ghost use Rattle.ucq_store.specs.Store.{IsCut, IsFinished};
+ghost use Rattle.ucq_store.specs.Laws.{IsEnough};
+ghost use Rattle.ucq_pool.specs.Shared.{IsAtWork, IsStage};
+
+use crate::solo::{alone, go_on};
+use crate::worker::{Round, Worker};
+use std::alloc::Global;
+use std::sync::{Mutex, Wait};
+use std::thread;
+use std::thread::Threads;
+use ucq_board::{Board, Seat};
+use ucq_hom::HomSpace;
+use ucq_outside::Gate;
+use ucq_store::laws::enough_budget;
+use ucq_store::{Claim, Store};
+use ucq_terms::{NoMemory, Problem};
+
+/// A store to which fewer claims were given has numbers enough for all that is left to do.
+const CLAIMS: u64 = 1 << 63;
+
+/// How much the workers did: how often a row was drawn from a board, and how many candidates were given with evidence.
+#[derive(Clone, Copy, Debug, PartialEq, Eq)]
+pub struct Note {
+    pub drawn: u64,
+    pub seen: u64,
+}
+
+/// A worker at its seat.
+#[derive(Drop)]
+struct Job {
+    worker: Worker,
+    seat: Seat,
+}
+
+/// What a round leaves: the store as its lock held it last, how many rows were drawn, and whether memory was wanting.
+#[derive(Drop)]
+struct Rested<'p> {
+    store: Store<'p>,
+    drawn: u32,
+    is_wanting: bool,
+}
+
+/// Where a rewriting stands after a round.
+#[derive(Drop)]
+pub(crate) enum Stage<'p> {
+    /// There are rows to explore.
+    Going(Store<'p>),
+    /// The store is finished or cut.
+    Ended(Store<'p>),
+}
+
+/// Rewrites the problem's query level by level until no row is left to explore, or the store is cut, as `alone` does, with
+/// 1 to 64 workers in threads of their own. The budget is 1 to 65,536; where it is enough for the levels of the problem, the
+/// store is finished. A worker passes the gate between the claim of a row and the publication of what it found. Want of
+/// memory is the one error; where a worker finds none its row is open again, and the caller goes on alone.
+///
+/// The call waits for the store's lock and for its threads, so its return isn't promised.
+pub fn rounds<'p, R: Threads + Wait + Sync, G: Gate + Sync>(
+    rt: &R,
+    alloc: Global,
+    problem: &'p Problem,
+    budget: u32,
+    workers: u32,
+    gate: &G,
+) -> Result<Store<'p>, NoMemory>
+    requires some { 0 < budget }
+    requires small { budget ≤ 65536 }
+    requires one { 0 < workers }
+    requires few { workers ≤ 64 }
+    ensures done { IfOk result (λ s. IsFinished s ⊎ IsCut s) }
+    ensures problem { IfOk result (λ s. (s.problem ≡ problem.entry.now) × (s.budget ≡ budget)) }
+    ensures enough { IfOk result (λ s. IsEnough problem.entry.now budget → IsFinished s) }
+{
+    let (store, _) = rounds_noted(rt, alloc, problem, budget, workers, gate)?;
+    Ok(store)
+}
+
+/// The same, with a note of what the workers did, of which nothing is promised.
+pub fn rounds_noted<'p, R: Threads + Wait + Sync, G: Gate + Sync>(
+    rt: &R,
+    alloc: Global,
+    problem: &'p Problem,
+    budget: u32,
+    workers: u32,
+    gate: &G,
+) -> Result<(Store<'p>, Note), NoMemory>
+    requires some { 0 < budget }
+    requires small { budget ≤ 65536 }
+    requires one { 0 < workers }
+    requires few { workers ≤ 64 }
+    ensures done { IfOk result (λ r. IsFinished r.0 ⊎ IsCut r.0) }
+    ensures problem { IfOk result (λ r. (r.0.problem ≡ problem.entry.now) × (r.0.budget ≡ budget)) }
+    ensures enough { IfOk result (λ r. IsEnough problem.entry.now budget → IsFinished r.0) }
+{
+    enough_budget();
+    let mut space = HomSpace::new(alloc)?;
+    let mut store = Store::new(alloc, &mut space, problem, budget)?;
+    let mut crew = hire(alloc, workers)?;
+    let mut note = Note { drawn: 0, seen: 0 };
+    for _ in rt.forever() {
+        let claims = claim_open(alloc, &mut store)?;
+        let rested = round(
+            rt,
+            alloc,
+            problem,
+            store,
+            claims.as_slice(),
+            &mut crew,
+            gate,
+        )?;
+        note.drawn = note.drawn.saturating_add(u64::from(rested.drawn));
+        match after_round(alloc, &mut space, problem, budget, rested)? {
+            Stage::Going(going) => store = going,
+            Stage::Ended(ended) => {
+                // A reader tells that the store is lawful.
+                let _ = ended.rows();
+                return Ok((ended, note));
+            }
+        }
+    }
+    unreachable!()
+}
+
+/// So many workers.
+fn hire(alloc: Global, workers: u32) -> Result<Vec<Worker>, NoMemory>
+    ensures { IfOk result (λ crew. vec_len crew ≡ workers) }
+{
+    let mut crew = Vec::with_capacity(alloc, workers as usize)?;
+    for number in 0..workers {
+        crew.push(Worker::new(alloc, number)?)?;
+    }
+    Ok(crew)
+}
+
+/// Claims all open rows, and gives the claims.
+fn claim_open(alloc: Global, store: &mut Store) -> Result<Vec<Claim>, NoMemory>
+    requires { store.old.budget ≤ 65536 }
+    ensures few { IfOk result (λ claims. vec_len claims ≤ 65536) }
+    ensures task { IfOk result (λ _. (store.new.problem ≡ store.old.problem) × (store.new.budget ≡ store.old.budget)) }
+{
+    let mut claims = Vec::new(alloc);
+    for _ in 0..store.rows() {
+        let Some(claim) = store.claim() else {
+            break;
+        };
+        claims.push(claim)?;
+    }
+    Ok(claims)
+}
+
+/// Lets workers explore the claimed rows of the store, each worker in a thread of its own where one can be made, and no more
+/// of them than there are claims.
+fn round<'p, R: Threads + Wait + Sync, G: Gate + Sync>(
+    rt: &R,
+    alloc: Global,
+    problem: &'p Problem,
+    store: Store<'p>,
+    claims: &[Claim],
+    crew: &mut Vec<Worker>,
+    gate: &G,
+) -> Result<Rested<'p>, NoMemory>
+    requires claims { length claims.now ≤ 65536 }
+{
+    let team = crew.len().min(claims.len()).min(64);
+    let (board, mut first) = match Board::new(alloc, claims.len() as u32, team as u32 + 1) {
+        Ok(made) => made,
+        Err(ucq_board::NoMemory) => return Err(NoMemory),
+    };
+    let jobs = seat_team(alloc, &board, &mut first, crew, team)?;
+    let lock = Mutex::new(store);
+    let round = Round {
+        problem,
+        store: &lock,
+        claims,
+        board: &board,
+        gate,
+    };
+    let shared = &round;
+    let ended = thread::map_vec(
+        rt,
+        jobs,
+        &|job: Job| -> Job
+            requires { (shared.now.board.now.rows ≡ length shared.now.claims.now) × IsAtWork shared.now.board.now job.seat }
+            ensures { IsAtWork shared.entry.now.board.now result.seat }
+        { work_at(rt, alloc, shared, job) },
+    );
+    let store = lock.into_inner();
+    let Ok(jobs) = ended else {
+        return Ok(Rested {
+            store,
+            drawn: 0,
+            is_wanting: true,
+        });
+    };
+    let is_wanting = rise_all(&board, &mut first, crew, jobs)?;
+    let drawn = board.close(first).drawn();
+    Ok(Rested {
+        store,
+        drawn,
+        is_wanting,
+    })
+}
+
+/// Lets a worker explore what its seat draws.
+fn work_at<'r, 'p, R: Wait, G: Gate>(
+    rt: &R,
+    alloc: Global,
+    round: &Round<'r, 'p, G>,
+    job: Job,
+) -> Job
+    requires rows { round.now.board.now.rows ≡ length round.now.claims.now }
+    requires seat { IsAtWork round.now.board.now job.seat }
+    ensures { IsAtWork round.now.board.now result.seat }
+{
+    let Job {
+        mut worker,
+        mut seat,
+    } = job;
+    worker.work(rt, alloc, round, &mut seat);
+    Job { worker, seat }
+}
+
+/// Seats so many workers of the crew at the board, or all where there are fewer.
+fn seat_team(
+    alloc: Global,
+    board: &Board,
+    first: &mut Seat,
+    crew: &mut Vec<Worker>,
+    team: usize,
+) -> Result<Vec<Job>, NoMemory>
+    requires board { IsOf board.now first.old }
+    requires spare { team ≤ first.old.view.spare }
+    ensures jobs { IfOk result (λ jobs. All (λ job. IsAtWork board.now job.seat) jobs.items) }
+    ensures count { IfOk result (λ jobs. first.new.view.spare + vec_len jobs ≡ first.old.view.spare) }
+    ensures first { IsOf board.now first.new }
+{
+    let mut jobs = Vec::with_capacity(alloc, team)?;
+    for _ in 0..team {
+        let Some(worker) = crew.pop() else {
+            break;
+        };
+        let seat = board.split(first);
+        jobs.push(Job { worker, seat })?;
+    }
+    Ok(jobs)
+}
+
+/// Joins the seats into the first, and gives the workers back to the crew. Answers whether one of them wanted memory.
+fn rise_all(
+    board: &Board,
+    first: &mut Seat,
+    crew: &mut Vec<Worker>,
+    jobs: Vec<Job>,
+) -> Result<bool, NoMemory>
+    requires board { IsOf board.now first.old }
+    requires jobs { All (λ job. IsAtWork board.now job.seat) jobs.items }
+    ensures count { IfOk result (λ _. first.new.view.spare ≡ first.old.view.spare + vec_len jobs) }
+    ensures first { IsOf board.now first.new }
+{
+    let mut is_wanting = false;
+    for job in jobs {
+        let Job { worker, seat } = job;
+        is_wanting = is_wanting || worker.wants_memory();
+        board.join(first, seat);
+        crew.push(worker)?;
+    }
+    Ok(is_wanting)
+}
+
+/// What the lock held last may be any store: where it isn't of this problem and budget, or too many claims were given, the
+/// problem is solved anew, alone. Else rows that are still claimed are opened, and the level is raised where none is open.
+/// Where memory was wanting the caller goes on alone.
+fn after_round<'p>(
+    alloc: Global,
+    space: &mut HomSpace,
+    problem: &'p Problem,
+    budget: u32,
+    rested: Rested<'p>,
+) -> Result<Stage<'p>, NoMemory>
+    requires some { 0 < budget }
+    requires small { budget ≤ 65536 }
+    requires clear { IsClear space.old }
+    ensures stage { IfOk result (IsStage problem.now budget) }
+    ensures clear { IsClear space.new }
+{
+    let Rested {
+        mut store,
+        drawn: _,
+        is_wanting,
+    } = rested;
+    if store.budget() != budget || store.claims() >= CLAIMS || !store.problem().same(problem) {
+        return Ok(Stage::Ended(alone(alloc, space, problem, budget)?));
+    }
+    store.reopen();
+    if store.cut().is_some() {
+        return Ok(Stage::Ended(store));
+    }
+    if is_wanting {
+        return Ok(Stage::Ended(go_on(alloc, space, store, problem)?));
+    }
+    if store.next_level() || !store.is_finished() {
+        Ok(Stage::Going(store))
+    } else {
+        Ok(Stage::Ended(store))
+    }
+}
