@@ -1,0 +1,207 @@
+//! A log of rows and their queries that only grows, and that threads read without a lock.
+//!
+//! What was added stays as it is, so an entry tells its row and its query at any time and on any thread. A thread that
+//! keeps the entries that it added itself is sure to see each of these; those of others it sees as they come.
+#![tactic(auto)]
+
+ghost use Rattle.std.specs.Prelude.{◌≡◌, ◌≤◌, All, length, IfOk, IfErr, IfSome};
+ghost use Rattle.ucq_hom.specs.Space.{IsClear};
+ghost use Rattle.ucq_log.specs.Words.{query_word as word_of};
+ghost use Rattle.ucq_log.specs.Log.{IsOf, Holds, IsCover, IsCoverIn, IsSeen};
+
+pub mod laws;
+mod notes;
+mod signatures;
+
+use boxcar::Pushed;
+use notes::Noted;
+use signatures::query_word;
+use std::alloc::Global;
+use std::marker::Model;
+use std::sync::Wait;
+use ucq_hom::HomSpace;
+use ucq_terms::{NoMemory, Query};
+
+/// Rows and their queries, each at a place of its own. Contracts see it as what tells it from other logs.
+#[derive(Drop)]
+pub struct Log {
+    vec: boxcar::Vec<Noted>,
+}
+
+impl Model for Log {
+    ghost use Rattle.boxcar.specs.Table.{Shelves};
+
+    ghost Value = { Shelves };
+
+    ghost view = { λ l. l.vec };
+}
+
+/// What shows that a log has a row and its query at a place. Contracts see it as these three and the mark of its log.
+#[derive(Drop)]
+pub struct Entry {
+    pushed: Pushed<Noted>,
+}
+
+impl Model for Entry {
+    ghost use Rattle.ucq_log.specs.Notes.{Placed};
+
+    ghost Value = { Placed };
+
+    ghost view = { λ e. record { place = e.pushed.index; row = e.pushed.value.row; query = e.pushed.value.query; mark = record { part = e.pushed.bucket; name = e.pushed.row } } };
+}
+
+/// Want of memory for an entry. The query comes back.
+#[derive(Drop)]
+pub struct Unkept {
+    pub query: Query,
+}
+
+/// An entry that covers a query.
+#[derive(Drop)]
+pub enum Seen {
+    /// The one at this place of the caller's own entries, which is the first such.
+    Own { place: u32 },
+    /// None of the caller's own entries covers the query, and this one of the log does.
+    Other { entry: Entry },
+}
+
+impl Log {
+    /// A log with no entry.
+    pub fn new(alloc: Global) -> Result<Log, NoMemory> {
+        let vec = boxcar::Vec::new(alloc)?;
+        Ok(Log { vec })
+    }
+
+    /// Adds a row and its query. `Unkept` is want of memory. It may wait for another thread that makes room in the log at
+    /// that moment.
+    pub fn add<R: Wait>(&self, rt: &R, row: u32, query: Query) -> Result<Entry, Unkept>
+        ensures held { IfOk result (λ e. Holds self.now row query e) }
+        ensures back { IfErr result (λ u. u.query ≡ query) }
+    {
+        match self.vec.push_shown(rt, Noted::new(row, query)) {
+            Ok(pushed) => Ok(Entry { pushed }),
+            Err(noted) => Err(Unkept {
+                query: noted.into_query(),
+            }),
+        }
+    }
+
+    /// The row that was added, whatever was added since.
+    pub fn row(&self, entry: &Entry) -> u32
+        requires { IsOf self.now entry.now }
+        ensures { result ≡ entry.now.row }
+    {
+        self.vec.value(&entry.pushed).row()
+    }
+
+    /// The query that was added, whatever was added since.
+    pub fn value(&self, entry: &Entry) -> &Query
+        requires { IsOf self.now entry.now }
+        ensures { result.now ≡ entry.now.query }
+    {
+        self.vec.value(&entry.pushed).query()
+    }
+
+    /// Looks for an entry whose query covers the given one: first among the caller's own entries, at most 65,536 of this
+    /// log, in order, and then among the others that the log has, from the newest on. `None` says that none of the own ones
+    /// covers it; another one may have been missed. Takes no memory, and searches up to two homomorphisms for each entry.
+    pub fn seen(&self, space: &mut HomSpace, own: &[Entry], query: &Query) -> Option<Seen>
+        requires few { length own.now ≤ 65536 }
+        requires ours { All (λ e. IsOf self.now e) own.now }
+        ensures seen { IsSeen self.now own.now query.now result }
+        ensures clear { IsClear space.new }
+    {
+        space.clear();
+        let word = query_word(query);
+        if let Some(place) = self.first_cover(space, own, query, word) {
+            return Some(Seen::Own { place });
+        }
+        match self.newest_cover(space, own, query, word) {
+            Some(entry) => Some(Seen::Other { entry }),
+            None => None,
+        }
+    }
+
+    // The first of the entries whose query covers the given one.
+    fn first_cover(
+        &self,
+        space: &mut HomSpace,
+        entries: &[Entry],
+        query: &Query,
+        word: u64,
+    ) -> Option<u32>
+        requires few { length entries.now ≤ 65536 }
+        requires ours { All (λ e. IsOf self.now e) entries.now }
+        requires word { word ≡ word_of query.now }
+        requires clear { IsClear space.old }
+        ensures cover { IsCoverIn entries.now query.now result }
+        ensures clear { IsClear space.new }
+    {
+        for (place, entry) in entries.iter().enumerate() {
+            let noted = self.vec.value(&entry.pushed);
+            if noted.does_cover(space, query, word) {
+                return Some(place as u32);
+            }
+        }
+        None
+    }
+
+    // An entry whose query covers the given one, the newest that is found. The own entries are passed over where they stand
+    // in order of place, as a caller that adds one after another has them.
+    fn newest_cover(
+        &self,
+        space: &mut HomSpace,
+        own: &[Entry],
+        query: &Query,
+        word: u64,
+    ) -> Option<Entry>
+        requires word { word ≡ word_of query.now }
+        requires clear { IsClear space.old }
+        ensures cover { IfSome result (λ e. IsCover self.now query.now e) }
+        ensures clear { IsClear space.new }
+    {
+        let mut left = own.len();
+        for place in (0..self.vec.count()).rev() {
+            if left > 0 && own[left - 1].place() == place as u64 {
+                left -= 1;
+            } else if let Some(entry) = self.cover_at(space, place, query, word) {
+                return Some(entry);
+            }
+        }
+        None
+    }
+
+    // The entry at the place, if there is one now and its query covers the given one.
+    fn cover_at(
+        &self,
+        space: &mut HomSpace,
+        place: usize,
+        query: &Query,
+        word: u64,
+    ) -> Option<Entry>
+        requires word { word ≡ word_of query.now }
+        requires clear { IsClear space.old }
+        ensures cover { IfSome result (λ e. IsCover self.now query.now e) }
+        ensures clear { IsClear space.new }
+    {
+        let Some(pushed) = self.vec.witness(place) else {
+            return None;
+        };
+        if self.vec.value(&pushed).does_cover(space, query, word) {
+            return Some(Entry { pushed });
+        }
+        None
+    }
+}
+
+impl Entry {
+    /// The place in its log. Entries of one place of one log agree, as `laws::entries_agree` says.
+    pub fn place(&self) -> u64
+        ensures { result ≡ self.now.place }
+    {
+        self.pushed.index() as u64
+    }
+}
+
+#[cfg(test)]
+mod tests;
