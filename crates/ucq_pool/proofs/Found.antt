@@ -1,17 +1,18 @@
 -- What is found rule by rule.
-use Rattle.std.proofs.Common.{◌≡◌, ℕ, ◌+◌, ◌<◌, ◌≤◌, List, [], ◌∷◌, ◌++◌, map, length, Any, get_or, sym, ap, ◌∙◌, subst, ⊎_elim, arith}
-use Rattle.std.proofs.lemmas.List.{get_or_read, map-append}
+use Rattle.std.proofs.Common.{◌≡◌, ℕ, ◌+◌, ◌<◌, ◌≤◌, List, [], ◌∷◌, ◌++◌, length, Any, append_assoc, get_or, sym, ap, ◌∙◌, subst, ⊎_elim, arith}
+use Rattle.std.proofs.lemmas.List.{get_or_read}
 use Rattle.std.proofs.lemmas.List.Elements.{Contains-append_left, Contains-append_right, All-append}
 use Rattle.std.proofs.lemmas.Bool.{cases_order}
 use Rattle.ucq_terms.specs.Syntax.{Rule, Query}
 use Rattle.ucq_terms.specs.Homomorphism.{Covers}
 use Rattle.ucq_terms.specs.Rewriting.{rule_at, IsOneStepWith}
 use Rattle.ucq_terms.proofs.Lists.{All-from_contains, Any-from_contains, Any-contains}
-use Rattle.ucq_store.specs.Candidates.{Candidate, plain}
+use Rattle.ucq_store.specs.Candidates.{Candidate, HoldsCore, HoldCores}
 use Rattle.ucq_store.specs.Lawful.{IsCoreOfOneStep}
 use Rattle.ucq_store.specs.Reports.{AreFound, HasWideStep}
+use Rattle.ucq_store.proofs.Holding.{hold_append, hold_push}
 use Rattle.ucq_step.specs.Steps.{IsCoreOfStep, IsCoveredBy, AreSteps, IsTooWide}
-use Rattle.ucq_pool.specs.Rewritings.{AreFoundBelow}
+use Rattle.ucq_pool.specs.Rewritings.{AreFoundBelow, AreProposed}
 use Rattle.ucq_pool.proofs.Renumbered.{step_from_alone, step_to_alone, step_within}
 
 -- one of two lists has it
@@ -48,10 +49,11 @@ module _ (rules : List Rule) (number : ℕ) (rule : Rule) (within : number < len
 
   -- the candidates of one more rule
   pub found_more : (q : Query) (candidates more : List Candidate) (cores : List Query) → AreFoundBelow rules number q candidates → AreSteps q rule cores →
-      more ≡ candidates ++ map plain cores → AreFoundBelow rules (number + 1) q more
-  found_more q candidates more cores was new e = record {
+      AreProposed candidates cores more → AreFoundBelow rules (number + 1) q more
+  found_more q candidates more cores was new proposed = record {
     cores = was.cores ++ cores;
-    fresh = e ∙ (ap (λ (cs : List Candidate). cs ++ map plain cores) was.fresh ∙ sym (map-append plain was.cores cores));
+    fresh = subst (λ (cs : List Candidate). HoldCores cs (was.cores ++ cores)) (sym proposed.are)
+        (hold_append candidates proposed.more was.cores cores was.fresh proposed.hold);
     derived = All-append (IsCoreOfOneStep rules q) was.cores cores was.derived (All-from_contains (IsCoreOfOneStep rules q) cores (λ c among. core_among_rules q c (new.each c among)));
     covered = λ k result less step.
         ⊎_elim
@@ -62,6 +64,15 @@ module _ (rules : List Rule) (number : ℕ) (rule : Rule) (within : number < len
         differ)
         (cases_order k number);
   }
+
+-- one more candidate is proposed
+pub one_proposed : (before now : List Candidate) (cores : List Query) (c : Candidate) (core : Query) → AreProposed before cores now → HoldsCore c core →
+    AreProposed before (cores ++ core ∷ []) (now ++ c ∷ [])
+one_proposed before now cores c core was holds = record {
+  more = was.more ++ c ∷ [];
+  are = ap (λ (cs : List Candidate). cs ++ c ∷ []) was.are ∙ append_assoc before was.more (c ∷ []);
+  hold = hold_push was.more cores c core was.hold holds;
+}
 
 -- the candidates of all rules
 pub found_all : (rules : List Rule) (number : ℕ) (q : Query) (candidates : List Candidate) → length rules ≤ number → AreFoundBelow rules number q candidates →

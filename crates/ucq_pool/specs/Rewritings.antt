@@ -1,22 +1,28 @@
 -- What rewriting a query with one rule after another finds.
-use Rattle.std.specs.Prelude.{◌≡◌, ℕ, ◌+◌, ◌<◌, false, List, map, All, Any, Result, Ok, Err}
+use Rattle.std.specs.Prelude.{◌≡◌, ℕ, ◌+◌, ◌<◌, ◌++◌, false, List, All, Any, Result, Ok, Err}
 use Rattle.ucq_terms.specs.Syntax.{Rule, Query, Problem}
 use Rattle.ucq_terms.specs.Homomorphism.{Covers}
 use Rattle.ucq_terms.specs.Rewriting.{IsOneStepWith}
 use Rattle.std.specs.Global.{Vec}
-use Rattle.ucq_store.specs.Candidates.{Candidate, plain}
+use Rattle.ucq_store.specs.Candidates.{Candidate, HoldCores}
 use Rattle.ucq_store.specs.Lawful.{IsCoreOfOneStep}
 use Rattle.ucq_store.specs.Reports.{Report, AreFound, HasWideStep}
 use Rattle.ucq_pool.specs.declared.rewritings.Fault.{Fault}
 use Rattle.ucq_pool.specs.declared.rewritings.Fault.TheVariants.{Wide, Memory}
 
--- Candidates that no store has taken. Their cores are cores of one-step rewritings of the query, and cover all of these with
--- the rules below that number.
+-- Candidates that no store has taken, with evidence or without. Their cores are cores of one-step rewritings of the query,
+-- and cover all of these with the rules below that number.
 pub record AreFoundBelow (rules : List Rule) (number : ℕ) (q : Query) (candidates : List Candidate) : Type 0 where
   pub cores : List Query
-  pub fresh : candidates ≡ map plain cores
+  pub fresh : HoldCores candidates cores
   pub derived : All (IsCoreOfOneStep rules q) cores
   pub covered : (rule : ℕ) (result : Query) → rule < number → IsOneStepWith rules rule q result → Any (λ core. Covers core result) cores
+
+-- candidates that hold these cores, with evidence or without, stand after those that were there
+pub record AreProposed (before : List Candidate) (cores : List Query) (after : List Candidate) : Type 0 where
+  pub more : List Candidate
+  pub are : after ≡ before ++ more
+  pub hold : HoldCores more cores
 
 -- all candidates, or a rule with which a rewriting is too wide
 abbrev pub DoesRewrite : List Rule → Query → Result (Vec Candidate) Fault → Type 0

@@ -1,9 +1,8 @@
 //! All rewritings of one query, as a report for the store.
-ghost use Rattle.std.specs.Prelude.{◌≡◌, ◌<◌, ◌≤◌, ◌++◌, IfOk, map, length};
+ghost use Rattle.std.specs.Prelude.{◌≡◌, ◌<◌, ◌≤◌, IfOk, length};
 ghost use Rattle.ucq_hom.specs.Space.{IsClear};
-ghost use Rattle.ucq_store.specs.Candidates.{plain};
 ghost use Rattle.ucq_pool.specs.declared.rewritings.Fault.TheVariants.{Memory};
-ghost use Rattle.ucq_pool.specs.Rewritings.{AreFoundBelow, DoesRewrite, DoesRewriteWith, IsUnspentOn};
+ghost use Rattle.ucq_pool.specs.Rewritings.{AreFoundBelow, AreProposed, DoesRewrite, DoesRewriteWith, IsUnspentOn};
 
 use std::alloc::Global;
 use ucq_hom::HomSpace;
@@ -92,7 +91,7 @@ fn rewrite_with<'p>(
 
 /// Adds a candidate of each core.
 fn propose<'p>(cores: Vec<Query>, candidates: &mut Vec<Candidate<'p>>) -> Result<(), NoMemory>
-    ensures { IfOk result (λ _. candidates.new.items ≡ candidates.old.items ++ map plain cores.items) }
+    ensures { IfOk result (λ _. AreProposed candidates.old.items cores.items candidates.new.items) }
 {
     candidates.reserve(cores.len())?;
     for core in cores {

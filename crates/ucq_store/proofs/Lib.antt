@@ -16,7 +16,10 @@ pub mod Cutting
 pub mod Beginning
 pub mod Sound
 pub mod Steps
+pub mod Holding
 pub mod Offered
 pub mod First
 pub mod Delivered
 pub mod Opens
+pub mod Worked
+pub mod Places

@@ -1,5 +1,5 @@
 -- A store takes the core of a candidate.
-use Rattle.std.proofs.Common.{◌≡◌, ℕ, ◌+◌, ◌<◌, refl, sym, ap, ◌∙◌, List, [], ◌∷◌, ◌++◌, None, Some, length, subst}
+use Rattle.std.proofs.Common.{◌≡◌, ℕ, ◌+◌, ◌<◌, refl, sym, ap, ◌∙◌, List, [], ◌∷◌, ◌++◌, None, Some, length, Option, subst}
 use Rattle.ucq_terms.specs.Syntax.{Query}
 use Rattle.ucq_terms.specs.Query.{IsStored}
 use Rattle.ucq_antichain.specs.Rows.{Kept, SomeLiveCovers}
@@ -9,10 +9,11 @@ use Rattle.ucq_store.specs.declared.RowState.TheVariants.{Waiting}
 use Rattle.ucq_store.specs.Store.{Store, query_of, depth_of}
 use Rattle.ucq_store.specs.Lawful.{IsCoreOfOneStep, IsLeftOver, IsLawful, IsLawfulByLevels}
 use Rattle.ucq_store.specs.Changes.{IsCandidate, Adds, with_row}
-use Rattle.ucq_store.specs.Candidates.{Candidate, plain, used}
+use Rattle.ucq_store.specs.Candidates.{Evidence, Candidate, used, IsEvident, IsKnownAmong, HoldsCore}
 use Rattle.ucq_store.specs.Calls.{IsOffered, DoesTake}
 use Rattle.ucq_store.proofs.Sound.{derived_is_sound}
 use Rattle.ucq_store.proofs.Cutting.{left_over}
+use Rattle.ucq_store.proofs.Live.{live_covers_on}
 use Rattle.ucq_store.proofs.Adding.{add_keeps}
 
 -- a core of a rewriting of a row of the level may be added
@@ -30,6 +31,13 @@ candidate_from s row core law l at derived stored = record {
   derived = derived;
 }
 
+-- where the evidence is right about its row, a live row covers the core
+pub known_is_covered : (s : Store) (core : Query) (evidence : Option Evidence) → IsLawful s → IsKnownAmong s.rows evidence → IsEvident (Some core) evidence →
+    SomeLiveCovers s.rows core
+known_is_covered s core None law bad evident = absurd bad
+known_is_covered s core (Some e) law held covers =
+    live_covers_on s.rows e.by core (subst (SomeLiveCovers s.rows) held.query (law.rows_are_covered e.row held.row_of)) covers
+
 abbrev pub kept_of : Store → Kept
 kept_of s = record { budget = s.budget; rows = s.rows }
 
@@ -39,21 +47,25 @@ with_rows s k marks = record s { budget = k.budget; rows = k.rows; marks = marks
 
 module _ (s : Store) (c : Candidate) (core : Query) (offered : IsOffered s c) (held : Some core ≡ c.core) where
   same_core : offered.core ≡ core
-  same_core = let e : Some core ≡ Some offered.core = held ∙ ap (λ (x : Candidate). x.core) offered.fresh in cc
+  same_core = let e : Some core ≡ Some offered.core = held ∙ offered.fresh.core_of in cc
 
-  pub fresh_core : c ≡ plain core
-  fresh_core = offered.fresh ∙ ap plain same_core
+  pub holds_core : HoldsCore c core
+  holds_core = record { core_of = sym held; placed_nowhere = offered.fresh.placed_nowhere }
 
   derived_here : IsCoreOfOneStep s.problem.rules (query_of s offered.row) core
   derived_here = subst (λ (q : Query). IsCoreOfOneStep s.problem.rules (query_of s offered.row) q) same_core offered.derived
-
-  pub placed_nowhere : c.placed ≡ None
-  placed_nowhere = ap (λ (x : Candidate). x.placed) offered.fresh
 
   -- where there is no room for the core, it is left over
   pub over : IsStored core → IsLawful s → ¬ SomeLiveCovers s.rows core → length s.rows ≡ s.budget → IsLeftOver s core
   over stored law fresh full =
       left_over s offered.row core law (candidate_from s offered.row core law offered.row_of offered.row_depth derived_here stored) fresh full
+
+  -- where the evidence is right, nothing is added
+  pub known_is_taken : IsLawful s → IsKnownAmong s.rows c.evidence → IsEvident c.core c.evidence → DoesTake s c None s (used c.placed)
+  known_is_taken law is evident =
+      let covered : SomeLiveCovers s.rows core =
+      known_is_covered s core c.evidence law is (subst (λ (x : Option Query). IsEvident x c.evidence) (sym held) evident) in
+      (core, holds_core, (None, ap used offered.fresh.placed_nowhere, (covered, refl)))
 
   module _ (row pruned : ℕ) (k : Kept) (marks : List Mark) (adds : AddsRow (kept_of s) core row pruned k)
       (noted : marks ≡ s.marks ++ record { depth = s.level + 1; state = Waiting } ∷ []) where
@@ -71,4 +83,4 @@ module _ (s : Store) (c : Candidate) (core : Query) (offered : IsOffered s c) (h
         subst IsLawfulByLevels (sym same_store) ((add_keeps s offered.row core k.rows offered.uncut candidate as_adds).by_levels law)
 
     pub added_is_taken : DoesTake s c None (with_rows s k marks) (used (Some row))
-    added_is_taken = (core, fresh_core, (Some row, refl, (adds.last, (k.rows, as_adds, same_store))))
+    added_is_taken = (core, holds_core, (Some row, refl, (adds.last, (k.rows, as_adds, same_store))))

@@ -14,7 +14,7 @@ use Rattle.ucq_store.specs.declared.reports.Found.TheVariants.{Whole, Wide}
 use Rattle.ucq_store.specs.Store.{Store, mark_at, IsRow, IsLive, IsCut, query_of, depth_of, state_of, IsInWork}
 use Rattle.ucq_store.specs.Lawful.{IsCoreOfOneStep, IsLeftOver, IsLawful}
 use Rattle.ucq_store.specs.Changes.{new_store, with_state, with_claim, with_cut, Takes, IsReopened, IsRaised}
-use Rattle.ucq_store.specs.Candidates.{Candidate, plain, used}
+use Rattle.ucq_store.specs.Candidates.{Candidate, used, HoldsCore, HoldCores}
 use Rattle.ucq_store.specs.Reports.{Report}
 
 -- a store of one row, a core of the problem's query, which is live and open
@@ -73,13 +73,13 @@ pub record IsOffered (s : Store) (c : Candidate) : Type 0 where
   pub row_of : IsRow s row
   pub row_depth : depth_of s row ≡ s.level
   pub core : Query
-  pub fresh : c ≡ plain core
+  pub fresh : HoldsCore c core
   pub derived : IsCoreOfOneStep s.problem.rules (query_of s row) core
 
 -- one core is covered by a live row, or is added, or is left over where there is no room for it
 abbrev pub DoesTake : Store → Candidate → Option Query → Store → Candidate → Type 0
-DoesTake s c None after c' = (core : Query) × (c ≡ plain core) × ((place : Option ℕ) × (c' ≡ used place) × Takes s (core ∷ []) (place ∷ []) after)
-DoesTake s c (Some left) after c' = (c ≡ plain left) × (c' ≡ used None) × (after ≡ s) × IsLeftOver s left
+DoesTake s c None after c' = (core : Query) × HoldsCore c core × ((place : Option ℕ) × (c' ≡ used place) × Takes s (core ∷ []) (place ∷ []) after)
+DoesTake s c (Some left) after c' = HoldsCore c left × (c' ≡ used None) × (after ≡ s) × IsLeftOver s left
 
 -- The cores of candidates, derived from a row of the level, may be taken.
 pub record AreOffered (s : Store) (row : ℕ) (candidates : List Candidate) : Type 0 where
@@ -88,26 +88,32 @@ pub record AreOffered (s : Store) (row : ℕ) (candidates : List Candidate) : Ty
   pub row_of : IsRow s row
   pub row_depth : depth_of s row ≡ s.level
   pub cores : List Query
-  pub fresh : candidates ≡ map plain cores
+  pub fresh : HoldCores candidates cores
   pub derived : All (IsCoreOfOneStep s.problem.rules (query_of s row)) cores
 
 -- all cores are taken
 pub record AreTaken (s : Store) (candidates : List Candidate) (after : Store) (then : List Candidate) : Type 0 where
   pub cores : List Query
-  pub were : candidates ≡ map plain cores
+  pub were : HoldCores candidates cores
   pub places : List (Option ℕ)
   pub takes : Takes s cores places after
   pub are : then ≡ map used places
 
--- the cores before one are taken, and that one, which no row covers, is left over
+-- The cores before one are taken, and that one, which no row covers, is left over. Later candidates are as they were.
 pub record IsFilled (s : Store) (candidates : List Candidate) (left : Query) (after : Store) (then : List Candidate) : Type 0 where
+  pub earlier : List Candidate
+  pub at : Candidate
+  pub later : List Candidate
+  pub were : candidates ≡ earlier ++ at ∷ later
   pub seen : List Query
   pub rest : List Query
-  pub were : candidates ≡ map plain (seen ++ left ∷ rest)
+  pub held_seen : HoldCores earlier seen
+  pub held_left : HoldsCore at left
+  pub held_rest : HoldCores later rest
   pub places : List (Option ℕ)
   pub takes : Takes s seen places after
   pub left_over : IsLeftOver after left
-  pub are : then ≡ map used places ++ used None ∷ map plain rest
+  pub are : then ≡ map used places ++ used None ∷ later
 
 abbrev pub DoesTakeAll : Store → List Candidate → Option Query → Store → List Candidate → Type 0
 DoesTakeAll s candidates None after then = AreTaken s candidates after then

@@ -1,11 +1,11 @@
 -- Reports on a claimed row.
-use Rattle.std.specs.Prelude.{◌≡◌, ℕ, ◌<◌, length, Bool, List, map, All, Option, None, slice_index_or}
+use Rattle.std.specs.Prelude.{◌≡◌, ℕ, ◌<◌, length, Bool, List, All, Option, None, slice_index_or}
 use Rattle.ucq_terms.specs.declared.TheConstants.{ATOMS}
 use Rattle.ucq_terms.specs.Syntax.{Rule, Query, Problem}
 use Rattle.ucq_terms.specs.Rewriting.{HasWidth, IsOneStepWith}
 use Rattle.ucq_store.specs.declared.reports.Found.{Found}
 use Rattle.ucq_store.specs.declared.reports.Found.TheVariants.{Whole, Wide}
-use Rattle.ucq_store.specs.Candidates.{Candidate, plain, used}
+use Rattle.ucq_store.specs.Candidates.{Candidate, used, HoldCores}
 use Rattle.ucq_store.specs.Lawful.{IsCoreOfOneStep}
 use Rattle.ucq_store.specs.Changes.{IsWhole}
 
@@ -16,10 +16,11 @@ pub record Report : Type 0 where
   pub found : Found
   pub spent : Bool
 
--- No store has taken these candidates. Their cores are cores of one-step rewritings of the query, and cover all of these.
+-- No store has taken these candidates, with evidence or without. Their cores are cores of one-step rewritings of the query,
+-- and cover all of these.
 pub record AreFound (rules : List Rule) (q : Query) (candidates : List Candidate) : Type 0 where
   pub cores : List Query
-  pub fresh : candidates ≡ map plain cores
+  pub fresh : HoldCores candidates cores
   pub derived : All (IsCoreOfOneStep rules q) cores
   pub whole : IsWhole rules q cores
 

@@ -1,52 +1,96 @@
 //! Reports on claimed rows.
-ghost use Rattle.std.specs.Prelude.{◌≡◌, ◌<◌, length, true, false, IsTrue, Some, None};
+ghost use Rattle.std.specs.Prelude.{◌≡◌, ◌<◌, ◌↔◌, length, true, false, IsTrue, Some, None};
+ghost use Rattle.ucq_terms.specs.Homomorphism.{Covers};
 ghost use Rattle.ucq_hom.specs.Space.{IsClear};
 ghost use Rattle.ucq_store.specs.Store.{depth_of};
 ghost use Rattle.ucq_store.specs.Lawful.{IsLawful};
-ghost use Rattle.ucq_store.specs.Candidates.{plain};
+ghost use Rattle.ucq_store.specs.Candidates.{plain, known, IsEvident, IsHeldAt, IsKnownAmong};
 ghost use Rattle.ucq_store.specs.Reports.{AreFound, HasWideStep, HasPlace, placed_at, placed_in};
 ghost use Rattle.ucq_store.specs.Calls.{AreOffered, DoesTakeAll, IsAbout, DoesDeliver};
 
 use crate::{Published, Store};
-use std::marker::{Model, PhantomData};
+use std::marker::Model;
+use ucq_antichain::Antichain;
 use ucq_hom::HomSpace;
 use ucq_terms::{Problem, Query};
 
-/// A core that a report proposes for a new row.
+// A query that covers a core, and the row that is said to hold it.
 #[derive(Drop)]
-pub struct Candidate<'p> {
-    core: Option<Query>,
-    placed: Option<u32>,
-    of: PhantomData<&'p Query>,
+pub(crate) struct Evidence<'q> {
+    row: u32,
+    by: &'q Query,
 }
 
-impl<'p> Model for Candidate<'p> {
-    ghost use Rattle.ucq_store.specs.Candidates.{Candidate as CandidateValue};
+impl<'q> Model for Evidence<'q> {
+    ghost use Rattle.ucq_store.specs.Candidates.{Evidence as EvidenceValue};
+
+    ghost Value = { EvidenceValue };
+
+    ghost view = { λ e. record { row = e.row; by = e.by.now } };
+}
+
+/// A core that a report proposes for a new row, with evidence that it is covered or without.
+#[derive(Drop)]
+pub struct Candidate<'q> {
+    core: Option<Query>,
+    evidence: Option<Evidence<'q>>,
+    placed: Option<u32>,
+}
+
+impl<'q> Model for Candidate<'q> {
+    ghost use Rattle.ucq_store.specs.Candidates.{Candidate as CandidateValue, IsEvident};
 
     ghost Value = { CandidateValue };
 
-    ghost view = { λ c. record { core = c.core; placed = c.placed } };
+    ghost view = { λ c. record { core = c.core; evidence = c.evidence; placed = c.placed } };
+
+    ghost invariant = { λ c. IsEvident c.core c.evidence };
 }
 
-impl<'p> Candidate<'p> {
+impl<'q> Candidate<'q> {
     /// The core, without evidence that it is covered.
-    pub fn plain(core: Query) -> Candidate<'p>
+    pub fn plain(core: Query) -> Candidate<'q>
         ensures { result ≡ plain core }
     {
         Candidate {
             core: Some(core),
+            evidence: None,
             placed: None,
-            of: PhantomData,
+        }
+    }
+
+    /// The core, and a query that covers it, which the row is said to hold. A store whose row holds another query searches
+    /// for a live row that covers the core, as for one without evidence; so whether the row is right is no condition.
+    pub fn known(core: Query, row: u32, by: &'q Query) -> Candidate<'q>
+        requires { Covers by.now core }
+        ensures { result ≡ known core (record { row = row; by = by.entry.now }) }
+    {
+        Candidate {
+            core: Some(core),
+            evidence: Some(Evidence { row, by }),
+            placed: None,
         }
     }
 }
 
-impl<'p> Candidate<'p> {
-    // Takes the core out.
+impl<'q> Candidate<'q> {
+    // Whether the evidence names a row that holds its query.
+    pub(crate) fn is_known(&self, antichain: &Antichain) -> bool
+        ensures known { IsTrue result ↔ IsKnownAmong antichain.now.rows self.now.evidence }
+        ensures evident { IsEvident self.now.core self.now.evidence }
+    {
+        match &self.evidence {
+            Some(evidence) => is_held(antichain, evidence),
+            None => false,
+        }
+    }
+
+    // Takes the core out. The evidence goes.
     pub(crate) fn take(&mut self) -> Option<Query>
         ensures core { result ≡ self.old.core }
-        ensures left { self.new ≡ record self.old { core = None } }
+        ensures left { self.new ≡ record self.old { core = None; evidence = None } }
     {
+        self.evidence = None;
         self.core.take()
     }
 
@@ -64,13 +108,20 @@ impl<'p> Candidate<'p> {
     }
 }
 
-// The candidates of a whole report. Contracts see the list.
-#[derive(Drop)]
-pub(crate) struct Candidates<'p> {
-    items: Vec<Candidate<'p>>,
+// Whether there is a row of that number, which holds the query.
+fn is_held(antichain: &Antichain, evidence: &Evidence) -> bool
+    ensures { IsTrue result ↔ IsHeldAt antichain.now.rows evidence.now }
+{
+    evidence.row < antichain.len() && antichain.query(evidence.row).same(evidence.by)
 }
 
-impl<'p> Model for Candidates<'p> {
+// The candidates of a whole report. Contracts see the list.
+#[derive(Drop)]
+pub(crate) struct Candidates<'q> {
+    items: Vec<Candidate<'q>>,
+}
+
+impl<'q> Model for Candidates<'q> {
     ghost use Rattle.std.specs.Prelude.{List};
     ghost use Rattle.ucq_store.specs.Candidates.{Candidate as CandidateValue};
 
@@ -79,7 +130,7 @@ impl<'p> Model for Candidates<'p> {
     ghost view = { λ c. c.items.items };
 }
 
-impl<'p> Candidates<'p> {
+impl<'q> Candidates<'q> {
     fn placed(&self, place: u32) -> Option<u32>
         requires { place < length self.now }
         ensures { result ≡ placed_at self.now place }
@@ -87,7 +138,7 @@ impl<'p> Candidates<'p> {
         self.items[place as usize].placed()
     }
 
-    fn take_all(&mut self, store: &mut Store<'p>, space: &mut HomSpace, row: u32) -> Option<Query>
+    fn take_all(&mut self, store: &mut Store, space: &mut HomSpace, row: u32) -> Option<Query>
         requires { AreOffered store.old row self.old }
         ensures does { DoesTakeAll store.old self.old result store.new self.new }
         ensures clear { IsClear space.old → IsClear space.new }
@@ -97,10 +148,10 @@ impl<'p> Candidates<'p> {
 }
 
 // Takes the cores of the candidates, derived from the row, one after another. What it gives back is left over.
-fn take_all<'p>(
-    store: &mut Store<'p>,
+fn take_all(
+    store: &mut Store,
     space: &mut HomSpace,
-    candidates: &mut [Candidate<'p>],
+    candidates: &mut [Candidate],
     row: u32,
 ) -> Option<Query>
     requires { AreOffered store.old row candidates.old }
@@ -118,22 +169,22 @@ fn take_all<'p>(
 
 // What was found for the query of a row.
 #[derive(Drop)]
-pub(crate) enum Found<'p> {
-    Whole { candidates: Candidates<'p> },
+pub(crate) enum Found<'q> {
+    Whole { candidates: Candidates<'q> },
     Wide { rule: u32, count: u32 },
 }
 
 /// What was found for the query of a claimed row: all its rewritings, by their cores, or one that is too wide. Until it is
 /// spent, these facts hold of it. It is spent by a publication that takes it or makes a cut of it.
 #[derive(Drop)]
-pub struct Report<'p> {
-    problem: &'p Problem,
+pub struct Report<'q> {
+    problem: &'q Problem,
     query: Query,
-    found: Found<'p>,
+    found: Found<'q>,
     spent: bool,
 }
 
-impl<'p> Model for Report<'p> {
+impl<'q> Model for Report<'q> {
     ghost use Rattle.std.specs.Prelude.{◌≡◌, false};
     ghost use Rattle.ucq_store.specs.Reports.{Report as ReportValue, IsFound};
 
@@ -144,9 +195,9 @@ impl<'p> Model for Report<'p> {
     ghost invariant = { λ r. r.spent ≡ false → IsFound r.problem.now.rules r.query r.found };
 }
 
-impl<'p> Report<'p> {
+impl<'q> Report<'q> {
     /// A report on the row of this query. The candidates' cores are cores of one-step rewritings of it, and cover all of these.
-    pub fn whole(problem: &'p Problem, query: Query, candidates: Vec<Candidate<'p>>) -> Report<'p>
+    pub fn whole(problem: &'q Problem, query: Query, candidates: Vec<Candidate<'q>>) -> Report<'q>
         requires { AreFound problem.now.rules query candidates.items }
         ensures { result ≡ record { problem = problem.entry.now; query = query; found = Found.Whole candidates.entry.items; spent = false } }
     {
@@ -160,7 +211,7 @@ impl<'p> Report<'p> {
     }
 
     /// A report on the row of this query, which has with this rule a one-step rewriting of `count` atoms, more than `ATOMS`.
-    pub fn wide(problem: &'p Problem, query: Query, rule: u32, count: u32) -> Report<'p>
+    pub fn wide(problem: &'q Problem, query: Query, rule: u32, count: u32) -> Report<'q>
         requires { HasWideStep problem.now.rules query rule count }
         ensures { result ≡ record { problem = problem.entry.now; query = query; found = Found.Wide rule count; spent = false } }
     {
@@ -203,12 +254,7 @@ impl<'p> Report<'p> {
     }
 
     // Gives the store what was found for its row.
-    pub(crate) fn deliver(
-        &mut self,
-        store: &mut Store<'p>,
-        space: &mut HomSpace,
-        row: u32,
-    ) -> Published
+    pub(crate) fn deliver(&mut self, store: &mut Store, space: &mut HomSpace, row: u32) -> Published
         requires lawful { IsLawful store.old }
         requires unspent { self.old.spent ≡ false }
         requires uncut { store.old.cut ≡ None }

@@ -211,12 +211,13 @@ impl<'p> Store<'p> {
     /// is covered by a live row; and then the row is done. The store is cut if the report is wide, or if a core is covered by
     /// no live row while the rows number the budget; rows that were added before stay. A cut store, a report on another query
     /// or problem, and a claim that isn't the row's are refused, in this order. Compares the queries and the problems by
-    /// their values, and searches up to two homomorphisms for each candidate and live row.
-    pub fn publish(
+    /// their values. A candidate whose evidence names a row that holds its query is covered without a search; for any other,
+    /// up to two homomorphisms are searched for each live row.
+    pub fn publish<'q>(
         &mut self,
         space: &mut HomSpace,
         claim: Claim,
-        report: &mut Report<'p>,
+        report: &mut Report<'q>,
     ) -> Published
         requires { report.old.spent ≡ false }
         ensures does { DoesPublish self.old claim report.old result self.new report.new }
@@ -274,7 +275,7 @@ impl<'p> Store<'p> {
     }
 
     // Whether the row has the report's query, under the report's problem.
-    fn is_about(&self, row: u32, report: &Report<'p>) -> bool
+    fn is_about(&self, row: u32, report: &Report) -> bool
         ensures { IsTrue result ↔ IsAboutRow self.now row report.now }
     {
         row < self.antichain.len()
@@ -283,16 +284,16 @@ impl<'p> Store<'p> {
     }
 
     // Takes the core of a candidate. What it gives back is left over.
-    pub(crate) fn take(
-        &mut self,
-        space: &mut HomSpace,
-        candidate: &mut Candidate<'p>,
-    ) -> Option<Query>
+    pub(crate) fn take(&mut self, space: &mut HomSpace, candidate: &mut Candidate) -> Option<Query>
         requires { IsOffered self.old candidate.old }
         ensures does { DoesTake self.old candidate.old result self.new candidate.new }
-        ensures clear { IsClear space.new }
+        ensures clear { IsClear space.old → IsClear space.new }
     {
+        let is_known = candidate.is_known(&self.antichain);
         let core = candidate.take()?;
+        if is_known {
+            return None;
+        }
         match self.antichain.add(space, core) {
             Added::Covered { row: _, query: _ } => None,
             Added::Full { query } => Some(query),

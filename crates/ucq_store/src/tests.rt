@@ -1,7 +1,8 @@
 //! What the public calls answer on worked rows.
-ghost use Rattle.std.specs.Prelude.{◌≡◌, [], false, length, IfOk, vec_len};
+ghost use Rattle.std.specs.Prelude.{◌≡◌, ◌∷◌, [], false, length, IfOk, vec_len};
+ghost use Rattle.ucq_store.specs.Worked.{fact as fact_of, facts, asks, rule_for, IsWorked};
 
-use crate::{Claim, Published, Released, Report, RowState, Store};
+use crate::{Candidate, Claim, Published, Released, Report, RowState, Store};
 use std::alloc::{AllocError, Global};
 use std::process::Abort;
 use std::test::Fail;
@@ -176,5 +177,119 @@ fn a_finished_store_gives_its_live_rows(rt: HostRuntime) -> Result<(), Fail> {
     let union = store.into_union();
     assert!(rt; union.len() == 1);
     assert!(rt; union.query(0).same(problem.query()));
+    Ok(())
+}
+
+/// The atom of that predicate with the constant 0.
+fn fact(alloc: Global, name: u32) -> Result<Atom, Fail>
+    ensures { IfOk result (λ a. a ≡ fact_of name) }
+{
+    Ok(Atom::new(name, vec![in alloc; Term::Constant(0)]?))
+}
+
+fn one_fact(alloc: Global, name: u32) -> Result<Vec<Atom>, Fail>
+    ensures { IfOk result (λ v. v.items ≡ facts (name ∷ [])) }
+{
+    Ok(vec![in alloc; fact(alloc, name)?]?)
+}
+
+fn two_facts(alloc: Global) -> Result<Vec<Atom>, Fail>
+    ensures { IfOk result (λ v. v.items ≡ facts (0 ∷ 1 ∷ [])) }
+{
+    Ok(vec![in alloc; fact(alloc, 0)?, fact(alloc, 1)?]?)
+}
+
+/// The query for that atom.
+fn asks_one(alloc: Global, name: u32) -> Result<Query, Fail>
+    ensures { IfOk result (λ q. q ≡ asks (name ∷ [])) }
+{
+    Ok(Query::new(alloc, Vec::new(alloc), one_fact(alloc, name)?)?)
+}
+
+/// The query for the atoms of predicates 0 and 1.
+fn asks_two(alloc: Global) -> Result<Query, Fail>
+    ensures { IfOk result (λ q. q ≡ asks (0 ∷ 1 ∷ [])) }
+{
+    Ok(Query::new(alloc, Vec::new(alloc), two_facts(alloc)?)?)
+}
+
+/// The problem of the query for predicate 0, with a rule that adds predicate 1 to it.
+fn adding(alloc: Global) -> Result<Problem, Fail>
+    ensures rules { IfOk result (λ p. p.rules ≡ rule_for 0 (0 ∷ 1 ∷ []) ∷ []) }
+    ensures query { IfOk result (λ p. p.query ≡ asks (0 ∷ [])) }
+{
+    let rule = Rule::new(alloc, one_fact(alloc, 0)?, two_facts(alloc)?)?;
+    Ok(Problem::new(vec![in alloc; rule]?, asks_one(alloc, 0)?))
+}
+
+/// The problem of the query for predicate 0, with a rule that puts predicate 1 in its place.
+fn replacing(alloc: Global) -> Result<Problem, Fail>
+    ensures rules { IfOk result (λ p. p.rules ≡ rule_for 0 (1 ∷ []) ∷ []) }
+    ensures query { IfOk result (λ p. p.query ≡ asks (0 ∷ [])) }
+{
+    let rule = Rule::new(alloc, one_fact(alloc, 0)?, one_fact(alloc, 1)?)?;
+    Ok(Problem::new(vec![in alloc; rule]?, asks_one(alloc, 0)?))
+}
+
+/// What becomes of a report on the first row with this candidate alone, and where the candidate was added.
+fn published_alone<'q>(
+    alloc: Global,
+    space: &mut HomSpace,
+    store: &mut Store,
+    problem: &'q Problem,
+    candidate: Candidate<'q>,
+) -> Result<(Published, Option<u32>), Fail>
+    requires { IsWorked problem.now candidate }
+{
+    let candidates = vec![in alloc; candidate]?;
+    let mut report = Report::whole(problem, problem.query().copy()?, candidates);
+    let claim = Claim { row: 0, number: 0 };
+    let answer = store.publish(space, claim, &mut report);
+    Ok((answer, report.placed(0)))
+}
+
+#[test]
+fn a_known_core_gets_no_row(rt: HostRuntime) -> Result<(), Fail> {
+    let alloc = rt.alloc();
+    let mut space = HomSpace::new(alloc)?;
+    let problem = adding(alloc)?;
+    let mut store = Store::new(alloc, &mut space, &problem, 2)?;
+    assert!(rt; store.claim().is_some());
+    let twin = adding(alloc)?;
+    let by = asks_one(alloc, 0)?;
+    let candidate = Candidate::known(asks_two(alloc)?, 0, &by);
+    let answer = published_alone(alloc, &mut space, &mut store, &twin, candidate)?;
+    assert_eq!(rt; answer, (Published::Taken, None));
+    assert!(rt; store.rows() == 1);
+    Ok(())
+}
+
+/// What becomes of a core that no row covers, with evidence that names that row.
+fn published_unknown(
+    rt: &impl Abort,
+    alloc: Global,
+    row: u32,
+) -> Result<(Published, Option<u32>), Fail> {
+    let mut space = HomSpace::new(alloc)?;
+    let problem = replacing(alloc)?;
+    let mut store = Store::new(alloc, &mut space, &problem, 2)?;
+    assert!(rt; store.claim().is_some());
+    let twin = replacing(alloc)?;
+    let by = asks_one(alloc, 1)?;
+    let candidate = Candidate::known(asks_one(alloc, 1)?, row, &by);
+    published_alone(alloc, &mut space, &mut store, &twin, candidate)
+}
+
+#[test]
+fn evidence_of_a_row_with_another_query_is_no_evidence(rt: HostRuntime) -> Result<(), Fail> {
+    let answer = published_unknown(&rt, rt.alloc(), 0)?;
+    assert_eq!(rt; answer, (Published::Taken, Some(1)));
+    Ok(())
+}
+
+#[test]
+fn evidence_of_no_row_is_no_evidence(rt: HostRuntime) -> Result<(), Fail> {
+    let answer = published_unknown(&rt, rt.alloc(), 1)?;
+    assert_eq!(rt; answer, (Published::Taken, Some(1)));
     Ok(())
 }

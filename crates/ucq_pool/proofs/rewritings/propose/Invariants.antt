@@ -1,6 +1,5 @@
-use Rattle.std.proofs.Common.{◌≡◌, ◌++◌, map}
-use Rattle.ucq_store.specs.Candidates.{plain}
+use Rattle.ucq_pool.specs.Rewritings.{AreProposed}
 use Rattle.ucq_pool.proofs.rewritings.propose.Given as goal
 
 abbrev pub invariant-loop-core : goal.invariant-loop-core
-invariant-loop-core l = l.candidates.items ≡ l.initial.candidates.items ++ map plain l.yielded
+invariant-loop-core l = AreProposed l.initial.candidates.items l.yielded l.candidates.items

@@ -1,4 +1,4 @@
-use Rattle.std.proofs.Common.{◌<◌, List, [], refl, slice_index_or, arith, subst, sym}
+use Rattle.std.proofs.Common.{◌<◌, List, [], slice_index_or, arith, subst, sym}
 use Rattle.std.proofs.lemmas.List.Elements.{All-nil}
 use Rattle.ucq_terms.specs.Syntax.{Rule, Query}
 use Rattle.ucq_terms.specs.Rewriting.{IsMember, IsOneStep}
@@ -17,7 +17,7 @@ none q result step =
 nothing : (q : Query) → AreFound [] q []
 nothing q = record {
   cores = [];
-  fresh = refl;
+  fresh = tt;
   derived = All-nil (IsCoreOfOneStep [] q);
   whole = record { covered = λ result step. absurd (none q result step) };
 }

@@ -1,13 +1,13 @@
-use Rattle.std.proofs.Common.{List, ◌≡◌, ◌+◌, ◌≤◌, Some, None, sym, ap, ◌∙◌, arith, subst}
+use Rattle.std.proofs.Common.{List, ◌≡◌, ◌+◌, ◌≤◌, Some, None, refl, sym, ap, ◌∙◌, arith, subst}
 use Rattle.ucq_antichain.specs.Rows.{Kept}
 use Rattle.ucq_store.specs.declared.Mark.{Mark}
 use Rattle.ucq_store.specs.declared.RowState.TheVariants.{Waiting}
 use Rattle.ucq_store.specs.Store.{Store, NoneOpenBelow}
 use Rattle.ucq_store.specs.Lawful.{IsLeftOver}
-use Rattle.ucq_store.specs.Candidates.{Candidate, plain, used}
+use Rattle.ucq_store.specs.Candidates.{Candidate, used, HoldsCore}
 use Rattle.ucq_store.specs.Calls.{IsOffered, DoesTake}
 use Rattle.ucq_store.proofs.Steps.{depth_fits}
-use Rattle.ucq_store.proofs.Offered.{with_rows, fresh_core, placed_nowhere, over, added_is_lawful, added_is_taken}
+use Rattle.ucq_store.proofs.Offered.{with_rows, holds_core, known_is_taken, over, added_is_lawful, added_is_taken}
 use Rattle.ucq_store.proofs.Opens.{none_below_added}
 use Rattle.ucq_store.proofs.store.Store.take.Goals as goal
 
@@ -34,12 +34,22 @@ invariant_of-self-in-Added c =
       subst (λ (ms : List Mark). NoneOpenBelow ms f.open_from) (sym c.push_mark.ensures.items) (none_below_added f.marks.items f.open_from (record { depth = s.level + 1; state = Waiting }) (λ bad. cc) c.self.invariant.3),
     )
 
+pub returns-then-is_known-clause-does : goal.returns-then-is_known-clause-does
+returns-then-is_known-clause-does c =
+    let f = c.self.inside in
+    let s : Store = record { problem = f.problem.now; budget = f.antichain.budget; rows = f.antichain.rows; marks = f.marks.items; level = f.level; claims = f.claims; cut = f.cut } in
+    let o : IsOffered s c.args.candidate.now = subst (λ (v : Store). IsOffered v c.args.candidate.now) (sym c.self.view_is) c.requires in
+    let does : DoesTake s c.args.candidate.now None s (used c.args.candidate.now.placed) =
+    known_is_taken s c.args.candidate.now c.in_ok-core.core o c.in_ok-core.ensures.core c.self.invariant.0.lawful (c.if-is_known.ensures.known.0 refl) c.if-is_known.ensures.evident in
+    subst (λ (v : Store). DoesTake v c.args.candidate.now None v c.take.new.self) c.self.view_is
+    (subst (λ (x : Candidate). DoesTake s c.args.candidate.now None s x) (sym c.take.ensures.left) does)
+
 pub returns-clause-does : goal.returns-clause-does
 returns-clause-does c =
     let f = c.self.inside in
     let s : Store = record { problem = f.problem.now; budget = f.antichain.budget; rows = f.antichain.rows; marks = f.marks.items; level = f.level; claims = f.claims; cut = f.cut } in
     let o : IsOffered s c.args.candidate.now = subst (λ (v : Store). IsOffered v c.args.candidate.now) (sym c.self.view_is) c.requires in
-    let placed : c.place.new.self ≡ used (Some c.in-Added.row) = c.place.ensures ∙ ap (λ (x : Candidate). let y : Candidate = record { core = x.core; placed = Some c.in-Added.row } in y) c.take.ensures.left in
+    let placed : c.place.new.self ≡ used (Some c.in-Added.row) = c.place.ensures ∙ ap (λ (x : Candidate). let y : Candidate = record { core = x.core; evidence = x.evidence; placed = Some c.in-Added.row } in y) c.take.ensures.left in
     let after : Store = with_rows s c.add.new.self c.push_mark.new.marks.items in
     let does : DoesTake s c.args.candidate.now None after (used (Some c.in-Added.row)) =
     added_is_taken s c.args.candidate.now c.in_ok-core.core o c.in_ok-core.ensures.core c.in-Added.row c.in-Added.pruned c.add.new.self c.push_mark.new.marks.items c.in-Added.ensures.does c.push_mark.ensures.items in
@@ -53,8 +63,8 @@ returns-in-Full-clause-does c =
     let o : IsOffered s c.args.candidate.now = subst (λ (v : Store). IsOffered v c.args.candidate.now) (sym c.self.view_is) c.requires in
     let (same, back, fresh, full) = c.in-Full.ensures.does in
     let left : IsLeftOver s c.in_ok-core.core = over s c.args.candidate.now c.in_ok-core.core o c.in_ok-core.ensures.core c.in-Full.ensures.stored c.self.invariant.0.lawful fresh full in (
-      fresh_core s c.args.candidate.now c.in_ok-core.core o c.in_ok-core.ensures.core ∙ ap plain (sym back),
-      c.take.ensures.left ∙ ap used (placed_nowhere s c.args.candidate.now c.in_ok-core.core o c.in_ok-core.ensures.core),
+      subst (HoldsCore c.args.candidate.now) (sym back) (holds_core s c.args.candidate.now c.in_ok-core.core o c.in_ok-core.ensures.core),
+      c.take.ensures.left ∙ ap used o.fresh.placed_nowhere,
       ap (λ (k : Kept). with_rows s k s.marks) same ∙ c.self.view_is,
       subst (λ (v : Store). IsLeftOver v c.in-Full.query) c.self.view_is (subst (IsLeftOver s) (sym back) left),
     )
