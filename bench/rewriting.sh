@@ -2,14 +2,10 @@
 # Times the proved program on rules and queries that it rewrites.
 # Usage: bench/rewriting.sh, after ./ucq or rt ci has built crates/ucq/out/ucq.
 . "$(dirname "$0")/setup.sh"
-
-# Each generator prints a file.
+. "$(dirname "$0")/inputs.sh"
 
 # 1,000 classes, each below the next.
-chain() {
-    for i in $(seq 1000); do echo "c$((i - 1))(X) :- c$i(X)."; done
-    echo "?(X) :- c0(X)."
-}
+chain() { chain_of 1000; }
 
 # A binary tree of 255 classes, of which the root is asked.
 tree() {
@@ -17,35 +13,9 @@ tree() {
     echo "?(X) :- c1(X)."
 }
 
-# Two trees of 31 classes, asked together: each pair is a query of the union.
-pairs() {
-    for i in $(seq 2 31); do
-        echo "a$((i / 2))(X) :- a$i(X)."
-        echo "b$((i / 2))(X) :- b$i(X)."
-    done
-    echo "?(X,Y) :- a1(X), r(X,Y), b1(Y)."
-}
+# Two trees of 31 classes, asked together.
+pairs() { pairs_of 31; }
 
-# 20 classes with a role each, whose domain and range are classes, and whose values exist.
-roles() {
-    for i in $(seq 20); do
-        echo "c$((i / 2))(X) :- c$i(X)."
-        echo "r$i(X,Y), c$((21 - i))(Y) :- c$i(X)."
-        echo "c$i(X) :- r$i(X,Y)."
-        echo "r0(X,Y) :- r$i(X,Y)."
-    done
-    echo "?(X) :- c0(X), r0(X,Y), c1(Y)."
-}
-
-# So many atoms, each a piece that can be joined with any others: 2^n - 1 aggregates, each with a core of its own.
-pieces_of() {
-    echo "p(X,Y) :- s(X)."
-    printf '?('
-    for i in $(seq "$1"); do printf '%sX%d' "$([ "$i" -gt 1 ] && echo ,)" "$i"; done
-    printf ') :- '
-    for i in $(seq "$1"); do printf '%sp(X%d,Y%d)' "$([ "$i" -gt 1 ] && echo ', ')" "$i" "$i"; done
-    echo .
-}
 pieces() { pieces_of 7; }
 
 # One step with 16 pieces, and so 65,535 cores. The budget ends the run after it.

@@ -1,5 +1,5 @@
 -- What one advance of a store at rest does.
-use Rattle.std.proofs.Common.{◌≡◌, ℕ, ◌+◌, ◌-◌, ◌*◌, ◌^◌, ◌<◌, ◌≤◌, ◌⊎◌, inl, inr, sym, ap, subst, Bool, true, false, not, Option, None, Some, arith}
+use Rattle.std.proofs.Common.{◌≡◌, ℕ, ◌+◌, ◌-◌, ◌^◌, ◌<◌, ◌⊎◌, inl, inr, sym, ap, subst, Bool, true, false, not, Option, None, Some, arith}
 use Rattle.std.specs.Option.{is_some, MatchOption}
 use Rattle.ucq_store.specs.declared.Cut.{Cut}
 use Rattle.ucq_store.specs.Store.{Store, IsCut}

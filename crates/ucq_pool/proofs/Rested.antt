@@ -1,17 +1,16 @@
 -- A store whose claimed rows are opened is at rest.
-use Rattle.std.proofs.Common.{◌≡◌, ◌≢◌, ℕ, ◌+◌, ◌-◌, ◌*◌, ◌^◌, ◌<◌, ◌≤◌, sym, ap, ◌∙◌, subst, List, [], ◌∷◌, length, Option, None, Some, false, arith}
+use Rattle.std.proofs.Common.{◌≡◌, ◌≢◌, ℕ, ◌*◌, ◌^◌, ◌<◌, ◌≤◌, sym, ap, ◌∙◌, subst, List, [], ◌∷◌, length, Option, None, Some, false, arith}
 use Rattle.std.specs.Option.{is_some, MatchOption}
-use Rattle.std.specs.List.{sum_by}
 use Rattle.std.proofs.lemmas.List.Sums.{sum_by-cons}
 use Rattle.ucq_store.specs.declared.Cut.{Cut}
 use Rattle.ucq_store.specs.declared.Mark.{Mark}
 use Rattle.ucq_store.specs.declared.RowState.{RowState}
 use Rattle.ucq_store.specs.declared.RowState.TheVariants.{Waiting, Open, Claimed, Done, Skipped}
-use Rattle.ucq_store.specs.Store.{Store, IsRow, state_of}
+use Rattle.ucq_store.specs.Store.{Store, state_of}
 use Rattle.ucq_store.specs.Lawful.{IsLawful}
 use Rattle.ucq_store.specs.Changes.{reopened}
 use Rattle.ucq_store.specs.Calls.{DoesReopen}
-use Rattle.ucq_pool.specs.Progress.{work_of, work_of_marks, work_left, IsAtRest}
+use Rattle.ucq_pool.specs.Progress.{work_of, work_of_marks, IsAtRest}
 
 little_work : (state : RowState) → work_of state ≤ 2
 little_work Waiting = omega arith

@@ -1,5 +1,5 @@
 -- What is left to do for a store.
-use Rattle.std.specs.Prelude.{◌≡◌, ◌≢◌, ℕ, ◌+◌, ◌-◌, ◌*◌, ◌^◌, ◌<◌, ◌≤◌, ◌⊎◌, Bool, true, false, List, length, Option, None}
+use Rattle.std.specs.Prelude.{◌≡◌, ◌≢◌, ℕ, ◌+◌, ◌-◌, ◌*◌, ◌^◌, ◌<◌, ◌⊎◌, Bool, true, false, List, length, Option, None}
 use Rattle.std.specs.List.{sum_by}
 use Rattle.ucq_terms.specs.Syntax.{Query}
 use Rattle.ucq_store.specs.declared.Mark.{Mark}

@@ -14,6 +14,7 @@ use std::thread;
 use std::thread::Threads;
 use ucq_board::{Board, Seat};
 use ucq_hom::HomSpace;
+use ucq_log::Log;
 use ucq_outside::Gate;
 use ucq_store::laws::enough_budget;
 use ucq_store::{Claim, Store};
@@ -31,8 +32,8 @@ pub struct Note {
 
 /// A worker at its seat.
 #[derive(Drop)]
-struct Job {
-    worker: Worker,
+struct Job<'l> {
+    worker: Worker<'l>,
     seat: Seat,
 }
 
@@ -99,8 +100,9 @@ pub fn rounds_noted<'p, R: Threads + Wait + Sync, G: Gate + Sync>(
     enough_budget();
     let mut space = HomSpace::new(alloc)?;
     let mut store = Store::new(alloc, &mut space, problem, budget)?;
-    let mut crew = hire(alloc, workers)?;
-    let mut note = Note { drawn: 0, seen: 0 };
+    let log = Log::new(alloc)?;
+    let mut crew = hire(alloc, workers, &log)?;
+    let mut drawn: u64 = 0;
     for _ in rt.forever() {
         let claims = claim_open(alloc, &mut store)?;
         let rested = round(
@@ -112,28 +114,38 @@ pub fn rounds_noted<'p, R: Threads + Wait + Sync, G: Gate + Sync>(
             &mut crew,
             gate,
         )?;
-        note.drawn = note.drawn.saturating_add(u64::from(rested.drawn));
+        drawn = drawn.saturating_add(u64::from(rested.drawn));
         match after_round(alloc, &mut space, problem, budget, rested)? {
             Stage::Going(going) => store = going,
             Stage::Ended(ended) => {
                 // A reader tells that the store is lawful.
                 let _ = ended.rows();
-                return Ok((ended, note));
+                let seen = seen_by(crew.as_slice());
+                return Ok((ended, Note { drawn, seen }));
             }
         }
     }
     unreachable!()
 }
 
-/// So many workers.
-fn hire(alloc: Global, workers: u32) -> Result<Vec<Worker>, NoMemory>
+/// So many workers with this log.
+fn hire<'l>(alloc: Global, workers: u32, log: &'l Log) -> Result<Vec<Worker<'l>>, NoMemory>
     ensures { IfOk result (λ crew. vec_len crew ≡ workers) }
 {
     let mut crew = Vec::with_capacity(alloc, workers as usize)?;
     for number in 0..workers {
-        crew.push(Worker::new(alloc, number)?)?;
+        crew.push(Worker::new(alloc, number, log)?)?;
     }
     Ok(crew)
+}
+
+/// How many candidates the workers gave with evidence.
+fn seen_by(crew: &[Worker]) -> u64 {
+    let mut seen: u64 = 0;
+    for worker in crew {
+        seen = seen.saturating_add(worker.seen());
+    }
+    seen
 }
 
 /// Claims all open rows, and gives the claims.
@@ -154,13 +166,13 @@ fn claim_open(alloc: Global, store: &mut Store) -> Result<Vec<Claim>, NoMemory>
 
 /// Lets workers explore the claimed rows of the store, each worker in a thread of its own where one can be made, and no more
 /// of them than there are claims.
-fn round<'p, R: Threads + Wait + Sync, G: Gate + Sync>(
+fn round<'p, 'l, R: Threads + Wait + Sync, G: Gate + Sync>(
     rt: &R,
     alloc: Global,
     problem: &'p Problem,
     store: Store<'p>,
     claims: &[Claim],
-    crew: &mut Vec<Worker>,
+    crew: &mut Vec<Worker<'l>>,
     gate: &G,
 ) -> Result<Rested<'p>, NoMemory>
     requires claims { length claims.now ≤ 65536 }
@@ -206,12 +218,12 @@ fn round<'p, R: Threads + Wait + Sync, G: Gate + Sync>(
 }
 
 /// Lets a worker explore what its seat draws.
-fn work_at<'r, 'p, R: Wait, G: Gate>(
+fn work_at<'r, 'p, 'l, R: Wait, G: Gate>(
     rt: &R,
     alloc: Global,
     round: &Round<'r, 'p, G>,
-    job: Job,
-) -> Job
+    job: Job<'l>,
+) -> Job<'l>
     requires rows { round.now.board.now.rows ≡ length round.now.claims.now }
     requires seat { IsAtWork round.now.board.now job.seat }
     ensures { IsAtWork round.now.board.now result.seat }
@@ -225,13 +237,13 @@ fn work_at<'r, 'p, R: Wait, G: Gate>(
 }
 
 /// Seats so many workers of the crew at the board, or all where there are fewer.
-fn seat_team(
+fn seat_team<'l>(
     alloc: Global,
     board: &Board,
     first: &mut Seat,
-    crew: &mut Vec<Worker>,
+    crew: &mut Vec<Worker<'l>>,
     team: usize,
-) -> Result<Vec<Job>, NoMemory>
+) -> Result<Vec<Job<'l>>, NoMemory>
     requires board { IsOf board.now first.old }
     requires spare { team ≤ first.old.view.spare }
     ensures jobs { IfOk result (λ jobs. All (λ job. IsAtWork board.now job.seat) jobs.items) }
@@ -250,15 +262,15 @@ fn seat_team(
 }
 
 /// Joins the seats into the first, and gives the workers back to the crew. Answers whether one of them wanted memory.
-fn rise_all(
+fn rise_all<'l>(
     board: &Board,
     first: &mut Seat,
-    crew: &mut Vec<Worker>,
-    jobs: Vec<Job>,
+    crew: &mut Vec<Worker<'l>>,
+    jobs: Vec<Job<'l>>,
 ) -> Result<bool, NoMemory>
     requires board { IsOf board.now first.old }
     requires jobs { All (λ job. IsAtWork board.now job.seat) jobs.items }
-    ensures count { IfOk result (λ _. first.new.view.spare ≡ first.old.view.spare + vec_len jobs) }
+    ensures count { IfOk result (λ _. first.new.view.spare ≡ first.old.view.spare + vec_len jobs.entry) }
     ensures first { IsOf board.now first.new }
 {
     let mut is_wanting = false;

@@ -1,6 +1,7 @@
 //! All rewritings of one query, as a report for the store.
 ghost use Rattle.std.specs.Prelude.{◌≡◌, ◌<◌, ◌≤◌, IfOk, length};
 ghost use Rattle.ucq_hom.specs.Space.{IsClear};
+ghost use Rattle.ucq_store.specs.Candidates.{HoldsCore};
 ghost use Rattle.ucq_pool.specs.declared.rewritings.Fault.TheVariants.{Memory};
 ghost use Rattle.ucq_pool.specs.Rewritings.{AreFoundBelow, AreProposed, DoesRewrite, DoesRewriteWith, IsUnspentOn};
 
@@ -27,31 +28,76 @@ impl From<NoMemory> for Fault {
     }
 }
 
-/// A report on all rewritings of the query, or on one that is too wide.
-pub(crate) fn report_on<'p>(
-    alloc: Global,
-    space: &mut HomSpace,
-    problem: &'p Problem,
-    query: Query,
-) -> Result<Report<'p>, NoMemory>
-    requires clear { IsClear space.old }
-    ensures report { IfOk result (λ r. IsUnspentOn problem.now query r) }
-    ensures clear { IsClear space.new }
-{
-    match rewrite(alloc, space, problem.rules(), &query) {
-        Ok(candidates) => Ok(Report::whole(problem, query, candidates)),
-        Err(Fault::Wide { rule, count }) => Ok(Report::wide(problem, query, rule, count)),
-        Err(Fault::Memory) => Err(NoMemory),
+/// What is kept of the cores of a report: a copy, by the place of its candidate, or none; and how many candidates have
+/// evidence.
+#[derive(Drop)]
+pub(crate) struct Kept {
+    pub copies: Vec<Option<Query>>,
+    pub seen: u64,
+}
+
+/// How a core becomes a candidate, and what is kept of it.
+pub(crate) trait Propose<'q> {
+    /// A candidate that holds the core, with evidence or without. Want of memory is the one error.
+    fn propose(
+        &self,
+        space: &mut HomSpace,
+        core: Query,
+        kept: &mut Kept,
+    ) -> Result<Candidate<'q>, NoMemory>
+        requires clear { IsClear space.old }
+        ensures core { IfOk result (λ c. HoldsCore c core) }
+        ensures clear { IsClear space.new };
+}
+
+/// Each core as it is, without evidence. Nothing is kept.
+#[derive(Drop)]
+pub(crate) struct Plainly;
+
+impl<'q> Propose<'q> for Plainly {
+    fn propose(
+        &self,
+        _space: &mut HomSpace,
+        core: Query,
+        _kept: &mut Kept,
+    ) -> Result<Candidate<'q>, NoMemory> {
+        Ok(Candidate::plain(core))
     }
 }
 
+/// A report on all rewritings of the query, or on one that is too wide.
+pub(crate) fn report_on<'q, P: Propose<'q>>(
+    alloc: Global,
+    space: &mut HomSpace,
+    problem: &'q Problem,
+    query: Query,
+    proposer: &P,
+) -> Result<(Report<'q>, Kept), NoMemory>
+    requires clear { IsClear space.old }
+    ensures report { IfOk result (λ r. IsUnspentOn problem.now query r.0) }
+    ensures clear { IsClear space.new }
+{
+    let mut kept = Kept {
+        copies: Vec::new(alloc),
+        seen: 0,
+    };
+    let report = match rewrite(alloc, space, problem.rules(), &query, proposer, &mut kept) {
+        Ok(candidates) => Report::whole(problem, query, candidates),
+        Err(Fault::Wide { rule, count }) => Report::wide(problem, query, rule, count),
+        Err(Fault::Memory) => return Err(NoMemory),
+    };
+    Ok((report, kept))
+}
+
 /// Candidates of all rewritings of the query, in order of the rules.
-fn rewrite<'p>(
+fn rewrite<'q, P: Propose<'q>>(
     alloc: Global,
     space: &mut HomSpace,
     rules: &[Rule],
     query: &Query,
-) -> Result<Vec<Candidate<'p>>, Fault>
+    proposer: &P,
+    kept: &mut Kept,
+) -> Result<Vec<Candidate<'q>>, Fault>
     requires few { length rules.now ≤ 4096 }
     requires clear { IsClear space.old }
     ensures found { DoesRewrite rules.now query.now result }
@@ -59,19 +105,30 @@ fn rewrite<'p>(
 {
     let mut candidates = Vec::new(alloc);
     for number in 0..rules.len() {
-        rewrite_with(alloc, space, rules, number, query, &mut candidates)?;
+        rewrite_with(
+            alloc,
+            space,
+            rules,
+            number,
+            query,
+            proposer,
+            kept,
+            &mut candidates,
+        )?;
     }
     Ok(candidates)
 }
 
 /// Adds the candidates of the rewritings with one rule.
-fn rewrite_with<'p>(
+fn rewrite_with<'q, P: Propose<'q>>(
     alloc: Global,
     space: &mut HomSpace,
     rules: &[Rule],
     number: usize,
     query: &Query,
-    candidates: &mut Vec<Candidate<'p>>,
+    proposer: &P,
+    kept: &mut Kept,
+    candidates: &mut Vec<Candidate<'q>>,
 ) -> Result<(), Fault>
     requires rule { number < length rules.now }
     requires few { length rules.now ≤ 4096 }
@@ -80,7 +137,7 @@ fn rewrite_with<'p>(
     ensures clear { IsClear space.new }
 {
     match step(alloc, space, query, &rules[number]) {
-        Ok(steps) => Ok(propose(steps.cores, candidates)?),
+        Ok(steps) => Ok(propose_all(space, steps.cores, proposer, kept, candidates)?),
         Err(StepFault::Wide { count }) => Err(Fault::Wide {
             rule: number as u32,
             count,
@@ -90,12 +147,21 @@ fn rewrite_with<'p>(
 }
 
 /// Adds a candidate of each core.
-fn propose<'p>(cores: Vec<Query>, candidates: &mut Vec<Candidate<'p>>) -> Result<(), NoMemory>
-    ensures { IfOk result (λ _. AreProposed candidates.old.items cores.items candidates.new.items) }
+fn propose_all<'q, P: Propose<'q>>(
+    space: &mut HomSpace,
+    cores: Vec<Query>,
+    proposer: &P,
+    kept: &mut Kept,
+    candidates: &mut Vec<Candidate<'q>>,
+) -> Result<(), NoMemory>
+    requires clear { IsClear space.old }
+    ensures proposed { IfOk result (λ _. AreProposed candidates.old.items cores.items candidates.new.items) }
+    ensures clear { IsClear space.new }
 {
     candidates.reserve(cores.len())?;
     for core in cores {
-        candidates.push(Candidate::plain(core))?;
+        let candidate = proposer.propose(space, core, kept)?;
+        candidates.push(candidate)?;
     }
     Ok(())
 }

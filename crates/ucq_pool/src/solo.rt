@@ -6,7 +6,7 @@ ghost use Rattle.ucq_store.specs.Calls.{IsClaimed};
 ghost use Rattle.ucq_store.specs.Laws.{IsEnough};
 ghost use Rattle.ucq_pool.specs.Progress.{IsAtRest, IsExplored, DoesAdvance, IsSameTask};
 
-use crate::rewritings::report_on;
+use crate::rewritings::{Plainly, report_on};
 use std::alloc::Global;
 use ucq_hom::HomSpace;
 use ucq_store::laws::enough_budget;
@@ -95,7 +95,7 @@ fn explore<'p>(
     ensures clear { IsClear space.new }
 {
     let query = store.query_of(claim.row).copy()?;
-    let mut report = report_on(alloc, space, problem, query)?;
+    let (mut report, _) = report_on(alloc, space, problem, query, &Plainly)?;
     // The row is claimed and the report is on it, so the store takes the report or is cut.
     let _ = store.publish(space, claim, &mut report);
     Ok(())

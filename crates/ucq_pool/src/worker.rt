@@ -3,11 +3,13 @@ ghost use Rattle.std.specs.Prelude.{◌≡◌, length};
 ghost use Rattle.ucq_hom.specs.Space.{IsClear};
 ghost use Rattle.ucq_pool.specs.Shared.{IsAtWork};
 
-use crate::rewritings::report_on;
+use crate::own::Own;
+use crate::rewritings::{Kept, report_on};
 use std::alloc::Global;
 use std::sync::{Mutex, Wait};
 use ucq_board::{Board, Seat};
 use ucq_hom::HomSpace;
+use ucq_log::Log;
 use ucq_outside::Gate;
 use ucq_store::{Claim, Published, Store};
 use ucq_terms::{NoMemory, Problem};
@@ -23,23 +25,33 @@ pub(crate) struct Round<'r, 'p, G> {
     pub gate: &'r G,
 }
 
-/// A worker: its number, the room for its searches, and whether it ever wanted memory.
+/// A worker: its number, the room for its searches, its entries of the log, how many candidates it gave with evidence, and
+/// whether it ever wanted memory.
 #[derive(Drop)]
-pub(crate) struct Worker {
+pub(crate) struct Worker<'l> {
     number: u32,
     space: HomSpace,
+    own: Own<'l>,
+    seen: u64,
     wants_memory: bool,
 }
 
-impl Worker {
-    /// A worker that wants no memory yet.
-    pub(crate) fn new(alloc: Global, number: u32) -> Result<Worker, NoMemory> {
+impl<'l> Worker<'l> {
+    /// A worker that has added nothing and wants no memory yet.
+    pub(crate) fn new(alloc: Global, number: u32, log: &'l Log) -> Result<Worker<'l>, NoMemory> {
         let space = HomSpace::new(alloc)?;
         Ok(Worker {
             number,
             space,
+            own: Own::new(alloc, log),
+            seen: 0,
             wants_memory: false,
         })
+    }
+
+    /// How many candidates it gave with evidence.
+    pub(crate) fn seen(&self) -> u64 {
+        self.seen
     }
 
     /// Whether the worker ever wanted memory.
@@ -66,7 +78,7 @@ impl Worker {
                 return;
             };
             let claim = round.claims[place as usize];
-            match explore(rt, alloc, &mut self.space, round, self.number, claim) {
+            match self.explore(rt, alloc, round, claim) {
                 Ok(Published::Taken) => round.board.finish(seat, place),
                 Ok(Published::Cut) => {
                     round.board.stop(seat);
@@ -81,38 +93,45 @@ impl Worker {
             }
         }
     }
-}
 
-/// Copies the query of a claimed row, rewrites it outside the lock, passes the gate, and publishes what was found. Where
-/// memory is wanting the claim is given back.
-fn explore<'r, 'p, R: Wait, G: Gate>(
-    rt: &R,
-    alloc: Global,
-    space: &mut HomSpace,
-    round: &Round<'r, 'p, G>,
-    number: u32,
-    claim: Claim,
-) -> Result<Published, NoMemory>
-    requires clear { IsClear space.old }
-    ensures clear { IsClear space.new }
-{
-    let query = {
-        let store = round.store.lock(rt);
-        if claim.row >= store.rows() {
-            return Ok(Published::Foreign);
+    /// Copies the query of a claimed row, rewrites it outside the lock, passes the gate, publishes what was found, and adds
+    /// the cores that were placed to the log. Where memory is wanting the claim is given back.
+    fn explore<'r, 'p, R: Wait, G: Gate>(
+        &mut self,
+        rt: &R,
+        alloc: Global,
+        round: &Round<'r, 'p, G>,
+        claim: Claim,
+    ) -> Result<Published, NoMemory>
+        requires clear { IsClear self.old.space }
+        ensures clear { IsClear self.new.space }
+    {
+        let query = {
+            let store = round.store.lock(rt);
+            if claim.row >= store.rows() {
+                return Ok(Published::Foreign);
+            }
+            store.query_of(claim.row).copy()
+        };
+        let found = match query {
+            Ok(query) => report_on(alloc, &mut self.space, round.problem, query, &self.own),
+            Err(NoMemory) => Err(NoMemory),
+        };
+        let Ok((mut report, kept)) = found else {
+            let mut store = round.store.lock(rt);
+            let _ = store.release(claim);
+            return Err(NoMemory);
+        };
+        let Kept { copies, seen } = kept;
+        self.seen = self.seen.saturating_add(seen);
+        round.gate.pass(self.number, claim.row);
+        let published = {
+            let mut store = round.store.lock(rt);
+            store.publish(&mut self.space, claim, &mut report)
+        };
+        if let Published::Taken = published {
+            self.own.add_placed(rt, &report, copies);
         }
-        store.query_of(claim.row).copy()
-    };
-    let report = match query {
-        Ok(query) => report_on(alloc, space, round.problem, query),
-        Err(NoMemory) => Err(NoMemory),
-    };
-    let Ok(mut report) = report else {
-        let mut store = round.store.lock(rt);
-        let _ = store.release(claim);
-        return Err(NoMemory);
-    };
-    round.gate.pass(number, claim.row);
-    let mut store = round.store.lock(rt);
-    Ok(store.publish(space, claim, &mut report))
+        Ok(published)
+    }
 }

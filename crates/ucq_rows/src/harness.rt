@@ -1,5 +1,7 @@
 //! Runs over files and sinks in memory.
 use std::alloc::{AllocError, Global};
+use std::sync::Wait;
+use std::thread::Threads;
 use ucq_outside::{Gate, MemoryShelf, MemorySink, NoMemoryOutside};
 use ucq_run::{run, run_alone};
 
@@ -27,11 +29,7 @@ fn sink(alloc: Global, failing: &[u64]) -> Result<MemorySink, AllocError> {
 }
 
 /// A shelf that holds these files. The pulls in the list fail.
-fn shelf(
-    alloc: Global,
-    files: &[(&str, &[u8])],
-    pulls: &[u64],
-) -> Result<MemoryShelf, AllocError> {
+fn shelf(alloc: Global, files: &[(&str, &[u8])], pulls: &[u64]) -> Result<MemoryShelf, AllocError> {
     let mut held = Vec::new(alloc);
     for (name, bytes) in files {
         held.push((String::from_str(alloc, name)?, bytes.to_vec(alloc)?))?;
@@ -60,13 +58,13 @@ pub fn run_over(
 }
 
 /// Runs the words over one file, `f`, with workers that pass the gate.
-pub fn run_crew<G: Gate + Sync>(
-    rt: &HostRuntime,
+pub fn run_crew<R: Threads + Wait + Sync, G: Gate + Sync>(
+    rt: &R,
+    alloc: Global,
     words: &[&str],
     file: &[u8],
     gate: &G,
 ) -> Result<Told, AllocError> {
-    let alloc = rt.alloc();
     let mut shelf = shelf(alloc, &[("f", file)], &[])?;
     let mut out = sink(alloc, &[])?;
     let mut err = sink(alloc, &[])?;

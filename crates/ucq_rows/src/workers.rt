@@ -6,7 +6,9 @@ use crate::harness::{Told, run_crew};
 use crate::university::UNIVERSITY;
 use std::alloc::Global;
 use std::process::Abort;
+use std::sync::Wait;
 use std::test::Fail;
+use std::thread::Threads;
 use ucq_hom::{HomSpace, covers};
 use ucq_outside::OpenGate;
 use ucq_pool::{alone, rounds, rounds_noted};
@@ -34,12 +36,14 @@ fn read_one(alloc: Global, text: &[u8]) -> Result<Input, ReadFault>
 fn problem_of(rt: &impl Abort, alloc: Global, text: &[u8]) -> Result<Problem, Fail> {
     assert!(rt; text.len() <= 1 << 20);
     match read_one(alloc, text) {
-        Ok(Input {
-            names: _,
-            rules,
-            query,
-            facts: _,
-        }) => {
+        Ok(
+            Input {
+                names: _,
+                rules,
+                query,
+                facts: _,
+            },
+        ) => {
             assert!(rt; rules.len() <= 4_096);
             Ok(Problem::new(rules, query))
         }
@@ -78,8 +82,12 @@ fn union_of(rt: &impl Abort, store: Store) -> Result<Union, Fail> {
 }
 
 /// Whether the union that two workers find through the gate is that of one worker.
-fn agree_through(rt: &HostRuntime, text: &[u8], gate: &HoldingGate) -> Result<bool, Fail> {
-    let alloc = rt.alloc();
+fn agree_through<R: Threads + Wait + Sync + Abort>(
+    rt: &R,
+    alloc: Global,
+    text: &[u8],
+    gate: &HoldingGate,
+) -> Result<bool, Fail> {
     let problem = problem_of(rt, alloc, text)?;
     let mut space = HomSpace::new(alloc)?;
     let together = union_of(rt, rounds(rt, alloc, &problem, 4_096, 2, gate)?)?;
@@ -91,7 +99,7 @@ fn agree_through(rt: &HostRuntime, text: &[u8], gate: &HoldingGate) -> Result<bo
 fn two_workers_are_at_work_at_the_same_time(rt: HostRuntime) -> Result<(), Fail> {
     for (held, awaited) in [(1, 2), (2, 1)] {
         let gate = HoldingGate::new(held, awaited);
-        assert!(rt; agree_through(&rt, PRUNED.as_bytes(), &gate)?);
+        assert!(rt; agree_through(&rt, rt.alloc(), PRUNED.as_bytes(), &gate)?);
         assert!(rt; gate.is_passed());
     }
     Ok(())
@@ -101,7 +109,13 @@ fn two_workers_are_at_work_at_the_same_time(rt: HostRuntime) -> Result<(), Fail>
 fn the_program_has_two_workers_at_work_at_the_same_time(rt: HostRuntime) -> Result<(), Fail> {
     for (held, awaited) in [(1, 2), (2, 1)] {
         let gate = HoldingGate::new(held, awaited);
-        let told = run_crew(&rt, &["--workers", "2", "f"], PRUNED.as_bytes(), &gate)?;
+        let told = run_crew(
+            &rt,
+            rt.alloc(),
+            &["--workers", "2", "f"],
+            PRUNED.as_bytes(),
+            &gate,
+        )?;
         let out = "% finished\n% queries 2\n? :- a(X0), b(X0).\n? :- c(X0).\n";
         assert!(rt; told.status == 0 && told.out.as_slice() == out.as_bytes());
         assert!(rt; gate.is_passed());
@@ -117,10 +131,7 @@ fn name_of(rt: &impl Abort, store: &Store, row: u32) -> Result<u32, Fail> {
 
 /// Whether a rule leads from the first predicate, in a body, to the second, in a head.
 fn leads(problem: &Problem, from: u32, to: u32) -> bool {
-    problem
-        .rules()
-        .iter()
-        .any(|rule| rule.body()[0].name() == from && rule.heads()[0].name() == to)
+    problem.rules().iter().any(|rule| rule.body()[0].name() == from && rule.heads()[0].name() == to)
 }
 
 #[test]
@@ -143,11 +154,15 @@ fn letter_of(told: &Told, line: usize) -> Option<u8> {
 }
 
 #[test]
-fn the_program_prints_the_rows_in_the_order_of_publications(
-    rt: HostRuntime,
-) -> Result<(), Fail> {
+fn the_program_prints_the_rows_in_the_order_of_publications(rt: HostRuntime) -> Result<(), Fail> {
     let gate = HoldingGate::new(1, 3);
-    let told = run_crew(&rt, &["--workers", "2", "f"], FAN.as_bytes(), &gate)?;
+    let told = run_crew(
+        &rt,
+        rt.alloc(),
+        &["--workers", "2", "f"],
+        FAN.as_bytes(),
+        &gate,
+    )?;
     assert!(rt; told.status == 0 && gate.is_passed());
     let third = letter_of(&told, 4).unwrap_or(0);
     let fifth = letter_of(&told, 6).unwrap_or(0);
@@ -175,10 +190,11 @@ fn explored(store: &Store) -> u64 {
 }
 
 #[test]
-fn each_row_that_is_drawn_is_explored(rt: HostRuntime) -> Result<(), Fail> {
+fn each_drawn_row_is_explored_and_covered_cores_are_seen(rt: HostRuntime) -> Result<(), Fail> {
     let problem = problem_of(&rt, rt.alloc(), UNIVERSITY.as_bytes())?;
     let (store, note) = rounds_noted(&rt, rt.alloc(), &problem, 4_096, 2, &OpenGate)?;
     assert!(rt; store.is_finished() && note.drawn == explored(&store));
+    assert!(rt; note.seen >= 1);
     Ok(())
 }
 
@@ -196,16 +212,25 @@ fn eight_workers_find_the_union_of_one(rt: HostRuntime) -> Result<(), Fail> {
 #[test]
 fn eight_workers_print_the_answers_of_one(rt: HostRuntime) -> Result<(), Fail> {
     let words = ["--workers", "8", "--answers", "f"];
-    let told = run_crew(&rt, &words, UNIVERSITY.as_bytes(), &OpenGate)?;
+    let told = run_crew(&rt, rt.alloc(), &words, UNIVERSITY.as_bytes(), &OpenGate)?;
     assert!(rt; told.status == 0);
     assert!(rt; told.out.starts_with(b"% finished\n% queries 10\n?"));
-    assert!(rt; told.out.ends_with(b".\n% answers 3\n% (ann)\n% (bob)\n% (cat)\n"));
+    assert!(rt;
+        told.out
+            .ends_with(b".\n% answers 3\n% (ann)\n% (bob)\n% (cat)\n")
+    );
     Ok(())
 }
 
 #[test]
 fn eight_workers_make_the_counts_of_one(rt: HostRuntime) -> Result<(), Fail> {
-    let told = run_crew(&rt, &["--workers", "8", "--make", "200"], b"", &OpenGate)?;
+    let told = run_crew(
+        &rt,
+        rt.alloc(),
+        &["--workers", "8", "--make", "200"],
+        b"",
+        &OpenGate,
+    )?;
     let out = "% finished\n% queries 202\n% atoms 403\n% answers 202\n";
     assert!(rt; told.status == 0 && told.out.as_slice() == out.as_bytes());
     Ok(())

@@ -236,10 +236,10 @@ module _ (one : OneSettings) where
       IsCause call o → Prints call out o → IsFinishedOrWanting (status_of o)
   only_finished call out o texts settings input told sure short is enough cause prints =
       not_cut (status_of o) (λ e.
-          let (p, isnt) = cut_is_short call out o e prints in
-          let same : settings ≡ p.settings = one call.words settings p.settings enough.stand p.asked.stand in
-          isnt (enough_of_files texts input p.input p.settings.budget is (asked_told call p.settings p.input texts p.asked told).1
-          (subst (λ (s : SettingsValue). IsEnough (problem_of input) s.budget) same enough.enough)))
+      let (p, isnt) = cut_is_short call out o e prints in
+      let same : settings ≡ p.settings = one call.words settings p.settings enough.stand p.asked.stand in
+      isnt (enough_of_files texts input p.input p.settings.budget is (asked_told call p.settings p.input texts p.asked told).1
+      (subst (λ (s : SettingsValue). IsEnough (problem_of input) s.budget) same enough.enough)))
       (only_answered call out o texts told sure (short, (input, is)) cause prints)
 
   only_finished_made : (call : Call) (out : SinkChange) (o : Outcome) (settings : SettingsValue) (number : ℕ) (input : InputValue) → settings.job ≡ make number →
@@ -247,12 +247,12 @@ module _ (one : OneSettings) where
       IsCause call o → Prints call out o → IsFinishedOrWanting (status_of o)
   only_finished_made call out o settings number input job sure is enough cause prints =
       not_cut (status_of o) (λ e.
-          let (p, isnt) = cut_is_short call out o e prints in
-          let same : settings ≡ p.settings = one call.words settings p.settings enough.stand p.asked.stand in
-          let here : IsNumbered (made number) input = subst (λ (j : JobValue). IsInputOf call.held j input) job is in
-          let asked : IsNumbered (made number) p.input = subst (λ (j : JobValue). IsInputOf call.held j p.input) (sym (ap (λ (s : SettingsValue). s.job) same) ∙ job) p.asked.has in
-          isnt (enough_of_numbered (made number) input p.input p.settings.budget here asked
-          (subst (λ (s : SettingsValue). IsEnough (problem_of input) s.budget) same enough.enough)))
+      let (p, isnt) = cut_is_short call out o e prints in
+      let same : settings ≡ p.settings = one call.words settings p.settings enough.stand p.asked.stand in
+      let here : IsNumbered (made number) input = subst (λ (j : JobValue). IsInputOf call.held j input) job is in
+      let asked : IsNumbered (made number) p.input = subst (λ (j : JobValue). IsInputOf call.held j p.input) (sym (ap (λ (s : SettingsValue). s.job) same) ∙ job) p.asked.has in
+      isnt (enough_of_numbered (made number) input p.input p.settings.budget here asked
+      (subst (λ (s : SettingsValue). IsEnough (problem_of input) s.budget) same enough.enough)))
       (only_made call out o settings number enough.stand job sure cause prints)
 
   -- A run's status is decided so.

@@ -2,6 +2,8 @@ mod Told
 mod Reported
 mod Printing
 mod OneProblem
+mod Asking
+mod Answered
 mod Decided
 mod FilesRead
 mod OverFacts

@@ -1,16 +1,15 @@
 -- Inputs of one meaning have one problem, up to the order of the query's atoms, and a budget is enough for all or for none.
-use Rattle.std.proofs.Common.{◌≡◌, ℕ, zero, suc, List, map, refl, sym, ap, ◌∙◌, subst}
+use Rattle.std.proofs.Common.{◌≡◌, ℕ, zero, suc, List, map, sym, ap, ◌∙◌, subst}
 use Rattle.std.specs.Prelude.{Result, Ok}
-use Rattle.ucq_terms.specs.declared.Term.{Term}
-use Rattle.ucq_terms.specs.Syntax.{Atom, Rule, Query, Problem, IsSubset, IsSameSet}
+use Rattle.ucq_terms.specs.Syntax.{Rule, Query, Problem, IsSubset, IsSameSet}
 use Rattle.ucq_terms.specs.Homomorphism.{Covers, IsEquivalent, IsCoreOf}
 use Rattle.ucq_terms.specs.Rewriting.{IsInLevel}
 use Rattle.ucq_terms.proofs.Subsets.{IsSubset-trans}
 use Rattle.ucq_terms.proofs.Maps.{Covers-refl, Covers-trans}
-use Rattle.ucq_store.specs.Laws.{IsCoveredByLevels, LevelsEnd, IsEnough}
+use Rattle.ucq_store.specs.Laws.{IsCoveredByLevels, IsEnough}
 use Rattle.ucq_reader.specs.declared.ReadFault.{ReadFault}
 use Rattle.ucq_reader.specs.Meaning.{Meant, SymbolQuery}
-use Rattle.ucq_reader.specs.Input.{InputValue, IsInput, IsMeaning, IsNumbered, IsQueryOf, rule_value}
+use Rattle.ucq_reader.specs.Input.{InputValue, IsInput, IsNumbered, IsQueryOf, rule_value}
 use Rattle.ucq_reader.proofs.Refusals.{meaning_unique}
 use Rattle.ucq_run.specs.Inputs.{problem_of}
 
@@ -39,12 +38,12 @@ core_of_same a b core same of = record {
 }
 
 module _ (rules : List Rule) where
-  problem_with : Query → Problem
+  abbrev problem_with : Query → Problem
   problem_with q = record { rules = rules; query = q }
 
   level_of_same : (a b : Query) → IsEquivalent a b → (level : ℕ) (core : Query) → IsInLevel (problem_with a) level core → IsInLevel (problem_with b) level core
-  level_of_same a b same zero core h = (h.0, core_of_same a b core same h.1)
-  level_of_same a b same (suc level) core (once, q, r, before, step, of) = (once, q, r, level_of_same a b same level q before, step, of)
+  level_of_same a b same zero core h = (h.0, core_of_same (problem_with a).query (problem_with b).query core same h.1)
+  level_of_same a b same (suc level) core (once, (q, r, before, step, of)) = (once, (q, r, level_of_same a b same level q before, step, of))
 
   back : (a b : Query) → IsEquivalent a b → IsEquivalent b a
   back a b same = record { forth = same.back; back = same.forth }

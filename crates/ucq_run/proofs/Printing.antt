@@ -1,5 +1,6 @@
 -- What was written for a question.
-use Rattle.std.proofs.Common.{◌≡◌, ℕ, List, inl, inr, refl, sym, subst}
+use Rattle.std.proofs.Common.{◌≡◌, ◌∙◌, ℕ, List, inl, inr, true, false, refl, sym, ap, subst}
+use Rattle.std.specs.Option.{is_some}
 use Rattle.std.specs.Prelude.{◌⊎◌, Option, Some, None, IsSome, Result, Ok, Err}
 use Rattle.ucq_terms.specs.Syntax.{Atom, Problem, Query}
 use Rattle.ucq_terms.specs.Union.{IsExact}
@@ -72,8 +73,8 @@ question_with q s = record q { problem = s.problem; budget = s.budget }
 -- where the budget is enough the store isn't cut
 not_enough : EnoughBudget → (s : Store) → IsLawfulByLevels s → IsCut s → ¬ IsEnough s.problem s.budget
 not_enough enough s lawful cut h =
-    let bad : IsSome {X = StoreCut} None = subst (λ (c : Option StoreCut). IsSome c) (enough s h.last h.members lawful h.ends h.fits).0 cut in
-    absurd cc
+    let bad : false ≡ true = sym (ap is_some (enough s h.last h.members lawful h.ends h.fits).0) ∙ cut in
+    cc
 
 pub prints_cut : CutListing → EnoughBudget → (q : Question) (out : SinkChange) (s : Store) (answer : Result (Unit {0}) Unwritten) (outcome : Outcome) → IsLawfulByLevels s →
     IsCut s → IsWritten out.taken_before out.taken_after out.faults_before out.faults_after (lines_text (cut_lines q.names s)) answer → IsWrittenAs answer Cut outcome →

@@ -7,18 +7,18 @@ ghost use Rattle.ucq_run.specs.Output.{change_of};
 ghost use Rattle.ucq_run.specs.Run.{IsFullRun};
 
 mod answers;
+mod asked;
 mod form;
 mod inputs;
 mod outcome;
 mod over_facts;
 mod reading;
 mod reports;
-mod solver;
 mod solving;
 mod texts;
 mod writing;
 
-use crate::solver::{Alone, Crew};
+use crate::answers::{answer_alone, answer_by_crew};
 use std::alloc::Global;
 use std::sync::Wait;
 use std::thread::Threads;
@@ -55,8 +55,7 @@ pub fn run<H: Shelf, K: Sink, E: Sink, G: Gate + Sync, R: Threads + Wait + Sync>
         result }
 {
     one_settings();
-    let crew = Crew { rt, gate };
-    let outcome = answers::answer(alloc, words, shelf, out, &crew);
+    let outcome = answer_by_crew(rt, alloc, words, shelf, out, gate);
     reports::report(alloc, err, outcome)
 }
 
@@ -75,6 +74,6 @@ pub fn run_alone<H: Shelf, K: Sink, E: Sink>(
         result }
 {
     one_settings();
-    let outcome = answers::answer(alloc, words, shelf, out, &Alone);
+    let outcome = answer_alone(alloc, words, shelf, out);
     reports::report(alloc, err, outcome)
 }

@@ -1,27 +1,29 @@
-//! From an input to the printed union, or the printed cut.
+//! From what is asked to the printed union, or the printed cut.
 ghost use Rattle.std.specs.Prelude.{◌≡◌, ◌<◌, ◌≤◌, ◌^◌, ◌⊎◌, ℕ, List, length, vec_len};
 ghost use Rattle.ucq_terms.specs.Syntax.{Atom as AtomValue, Problem as ProblemValue};
 ghost use Rattle.ucq_terms.specs.Union.{IsExact};
 ghost use Rattle.ucq_store.specs.Store.{IsCut, IsFinished};
 ghost use Rattle.ucq_store.specs.Lawful.{IsLawfulByLevels};
-ghost use Rattle.ucq_reader.specs.Outcome.{input_value};
-ghost use Rattle.ucq_run.specs.Inputs.{problem_of};
 ghost use Rattle.ucq_run.specs.declared.form.Form.{Form as FormValue};
 ghost use Rattle.ucq_run.specs.declared.form.Form.TheVariants.{Queries, Answers, Counts};
+ghost use Rattle.ucq_run.specs.Asked.{IsWithin, question_in};
 ghost use Rattle.ucq_run.specs.Output.{change_of, IsWrittenAs, PrintsFor};
 
+use crate::asked::Asked;
 use crate::form::Form;
 use crate::outcome::Outcome;
 use crate::over_facts::{answers_over, atom_count};
-use crate::solver::Solver;
 use crate::texts::{AnsweredText, CutText, FinishedText, SummaryText};
 use crate::writing::{Unwritten, write_text};
 use std::alloc::Global;
-use ucq_outside::Sink;
-use ucq_reader::Input;
+use std::sync::Wait;
+use std::thread::Threads;
+use ucq_hom::HomSpace;
+use ucq_outside::{Gate, Sink};
+use ucq_pool::{alone, rounds};
 use ucq_store::Store;
 use ucq_store::laws::{cut_listing, enough_budget};
-use ucq_terms::{Atom, Names, NoMemory, Problem, Union};
+use ucq_terms::{Atom, Names, NoMemory, Union};
 
 /// The outcome of writing, which is this one where all was written.
 fn written(answer: Result<(), Unwritten>, whole: Outcome) -> Outcome
@@ -157,34 +159,52 @@ fn print_store<K: Sink>(
     }
 }
 
-/// Rewrites the input's query with its rules, and prints the union in this form, or the cut.
-pub fn solve<K: Sink, S: Solver>(
-    alloc: Global,
-    input: Input,
-    budget: u32,
-    workers: u32,
-    form: Form,
-    out: &mut K,
-    solver: &S,
-) -> Outcome
-    requires rules { length (input_value input).rules ≤ 4096 }
-    requires facts { length (input_value input).facts ≤ 2 ^ 20 }
-    requires some { 0 < budget }
-    requires small { budget ≤ 65536 }
-    requires one { 0 < workers }
-    requires few { workers ≤ 64 }
-    ensures { PrintsFor
-        (record { form = form; names = (input_value input).names; problem = problem_of (input_value input); facts = (input_value input).facts; budget = budget })
-        (change_of (K.taken out.old) (K.taken out.new) (K.faults out.old) (K.faults out.new)) result }
+/// Rewrites the query that is asked with its rules on one thread, and prints the union, or the cut.
+pub fn solve_alone<K: Sink>(alloc: Global, asked: Asked, out: &mut K) -> Outcome
+    requires { IsWithin asked }
+    ensures { PrintsFor (question_in asked) (change_of (K.taken out.old) (K.taken out.new) (K.faults out.old) (K.faults out.new)) result }
 {
-    let Input {
+    let Asked {
         names,
-        rules,
-        query,
+        problem,
         facts,
-    } = input;
-    let problem = Problem::new(rules, query);
-    match solver.solve(alloc, &problem, budget, workers) {
+        budget,
+        workers: _,
+        form,
+    } = asked;
+    let mut space = match HomSpace::new(alloc) {
+        Ok(space) => space,
+        Err(NoMemory) => return Outcome::NoMemory,
+    };
+    match alone(alloc, &mut space, &problem, budget) {
+        Ok(store) => print_store(alloc, &names, store, facts, form, out),
+        Err(NoMemory) => Outcome::NoMemory,
+    }
+}
+
+/// The same by as many workers as are asked for, who pass the gate. One worker works alone.
+pub fn solve_by_crew<K: Sink, G: Gate + Sync, R: Threads + Wait + Sync>(
+    rt: &R,
+    alloc: Global,
+    asked: Asked,
+    out: &mut K,
+    gate: &G,
+) -> Outcome
+    requires { IsWithin asked }
+    ensures { PrintsFor (question_in asked) (change_of (K.taken out.old) (K.taken out.new) (K.faults out.old) (K.faults out.new)) result }
+{
+    if asked.workers == 1 {
+        return solve_alone(alloc, asked, out);
+    }
+    let Asked {
+        names,
+        problem,
+        facts,
+        budget,
+        workers,
+        form,
+    } = asked;
+    match rounds(rt, alloc, &problem, budget, workers, gate) {
         Ok(store) => print_store(alloc, &names, store, facts, form, out),
         Err(NoMemory) => Outcome::NoMemory,
     }

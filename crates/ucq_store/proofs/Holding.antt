@@ -1,5 +1,5 @@
 -- Candidates that hold cores, with evidence or without.
-use Rattle.std.proofs.Common.{◌≡◌, ℕ, ◌+◌, ◌<◌, refl, sym, ap, ◌∙◌, List, [], ◌∷◌, ◌++◌, Option, None, Some, length, map, arith}
+use Rattle.std.proofs.Common.{◌≡◌, ◌<◌, refl, sym, ◌∙◌, List, [], ◌∷◌, ◌++◌, Some, length, map, arith}
 use Rattle.ucq_terms.specs.Syntax.{Query}
 use Rattle.ucq_store.specs.Candidates.{Evidence, Candidate, plain, known, HoldsCore, HoldCores}
 

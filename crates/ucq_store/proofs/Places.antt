@@ -1,5 +1,5 @@
 -- A publication changes no number of candidates.
-use Rattle.std.proofs.Common.{◌≡◌, ℕ, ◌+◌, ◌<◌, inl, inr, sym, ap, ◌∙◌, subst, None, List, ◌∷◌, ◌++◌, length, map, arith}
+use Rattle.std.proofs.Common.{◌≡◌, ℕ, ◌+◌, ◌<◌, inl, inr, sym, ap, ◌∙◌, subst, None, List, ◌∷◌, length, map, arith}
 use Rattle.std.proofs.lemmas.List.{length-append, length-map}
 use Rattle.ucq_terms.specs.Syntax.{Query}
 use Rattle.ucq_store.specs.declared.Claim.{Claim}

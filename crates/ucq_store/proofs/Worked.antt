@@ -1,16 +1,16 @@
 -- The rewritings of a query for one atom of a constant, with one rule for it.
-use Rattle.std.proofs.Common.{◌≡◌, ℕ, ◌<◌, refl, sym, ap, ap₂, ◌∙◌, inl, inr, subst, List, [], ◌∷◌, ◌++◌, length, map, flat_map, filter, Bool, true, false, cond, not, All, Any, Contains, arith}
+use Rattle.std.proofs.Common.{◌≡◌, ℕ, ◌<◌, refl, sym, ap, ap₂, ◌∙◌, inl, inr, subst, List, [], ◌∷◌, ◌++◌, length, flat_map, filter, Bool, true, false, cond, not, All, Contains, arith}
 use Rattle.std.specs.List.{enumerate_from}
 use Rattle.std.proofs.lemmas.List.{append-nil}
 use Rattle.ucq_terms.specs.declared.Term.{Term}
 use Rattle.ucq_terms.specs.declared.Term.TheVariants.{Constant, Variable}
-use Rattle.ucq_terms.specs.Syntax.{Atom, Rule, Query, Problem, OccursIn, IsSubset, IsSameSet}
+use Rattle.ucq_terms.specs.Syntax.{Atom, Rule, Query, Problem, IsSubset, IsSameSet}
 use Rattle.ucq_terms.specs.Chase.{IsExistential}
 use Rattle.ucq_terms.specs.Homomorphism.{Covers, IsCoreOf}
-use Rattle.ucq_terms.specs.Unifier.{Node, constant, copy_node, AreJoined, HasNoClash, KeepsPredicate, IsPieceUnifier}
-use Rattle.ucq_terms.specs.Rewriting.{Member, rule_at, IsMember, Rewrites, IsOneStep, all_links, atoms_named, bodies}
+use Rattle.ucq_terms.specs.Unifier.{Node, constant, copy_node, HasNoClash, KeepsPredicate, IsPieceUnifier}
+use Rattle.ucq_terms.specs.Rewriting.{Member, rule_at, IsMember, Rewrites, IsOneStep, atoms_named, bodies}
 use Rattle.ucq_terms.proofs.Lists.{Contains-first, Contains-cons_cases, Contains-empty, All-from_contains, Any-from_contains}
-use Rattle.ucq_terms.proofs.Subsets.{IsSubset-refl, IsSubset-trans, IsSubset-append_left, IsSameSet-refl, OccursIn-atom}
+use Rattle.ucq_terms.proofs.Subsets.{IsSubset-trans, IsSubset-append_left, IsSameSet-refl, OccursIn-atom}
 use Rattle.ucq_terms.proofs.Classes.{AreJoined-same}
 use Rattle.ucq_terms.proofs.ClassNames.{class_name, NamesClasses-class_name}
 use Rattle.ucq_terms.proofs.Maps.{Covers-refl}
@@ -31,10 +31,6 @@ kept : (f : Term → Term) → f (Constant 0) ≡ Constant 0 → (names : List �
 kept f same [] = refl
 kept f same (name ∷ names) =
     ap₂ (λ (a : Atom) (rest : List Atom). a ∷ rest) (ap (λ (t : Term). let a : Atom = record { name = name; terms = t ∷ [] } in a) same) (kept f same names)
-
-pub facts_cover : (few more : List ℕ) → IsSubset (facts few) (facts more) → Covers (asks few) (asks more)
-facts_cover few more within =
-    record { mapping = Variable; homomorphism = record { atoms = subst (λ (xs : List Atom). IsSubset xs (facts more)) (sym (kept _ refl few)) within; answers = refl } }
 
 core_of : (names : List ℕ) → IsCoreOf (asks names) (asks names)
 core_of names = record {

@@ -1,5 +1,5 @@
 -- Reports on a claimed row.
-use Rattle.std.specs.Prelude.{◌≡◌, ℕ, ◌<◌, length, Bool, List, All, Option, None, slice_index_or}
+use Rattle.std.specs.Prelude.{ℕ, ◌<◌, length, Bool, List, All, Option, None, slice_index_or}
 use Rattle.ucq_terms.specs.declared.TheConstants.{ATOMS}
 use Rattle.ucq_terms.specs.Syntax.{Rule, Query, Problem}
 use Rattle.ucq_terms.specs.Rewriting.{HasWidth, IsOneStepWith}

@@ -1,5 +1,5 @@
 //! Reports on claimed rows.
-ghost use Rattle.std.specs.Prelude.{◌≡◌, ◌<◌, ◌↔◌, length, true, false, IsTrue, Some, None};
+ghost use Rattle.std.specs.Prelude.{◌≡◌, ◌<◌, ◌↔◌, ℕ, length, true, false, IsTrue, Some, None};
 ghost use Rattle.ucq_terms.specs.Homomorphism.{Covers};
 ghost use Rattle.ucq_hom.specs.Space.{IsClear};
 ghost use Rattle.ucq_store.specs.Store.{depth_of};
@@ -131,6 +131,12 @@ impl<'q> Model for Candidates<'q> {
 }
 
 impl<'q> Candidates<'q> {
+    fn len(&self) -> usize
+        ensures { result ≡ length self.now }
+    {
+        self.items.len()
+    }
+
     fn placed(&self, place: u32) -> Option<u32>
         requires { place < length self.now }
         ensures { result ≡ placed_at self.now place }
@@ -176,6 +182,8 @@ pub(crate) enum Found<'q> {
 
 /// What was found for the query of a claimed row: all its rewritings, by their cores, or one that is too wide. Until it is
 /// spent, these facts hold of it. It is spent by a publication that takes it or makes a cut of it.
+///
+/// A report borrows its problem and the queries of its evidence. It may live shorter than the problem of a store.
 #[derive(Drop)]
 pub struct Report<'q> {
     problem: &'q Problem,
@@ -228,6 +236,16 @@ impl<'q> Report<'q> {
         ensures { result ≡ self.now.spent }
     {
         self.spent
+    }
+
+    /// How many candidates a whole report has, and 0 of a wide one.
+    pub fn candidates(&self) -> usize
+        ensures { (place : ℕ) → place < result → HasPlace self.now.found place }
+    {
+        match &self.found {
+            Found::Whole { candidates } => candidates.len(),
+            Found::Wide { rule: _, count: _ } => 0,
+        }
     }
 
     /// The row at which the last publication added the candidate at the place, of a whole report.

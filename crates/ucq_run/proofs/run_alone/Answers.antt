@@ -3,4 +3,4 @@ use Rattle.ucq_run.proofs.run_alone.Goals as goal
 
 pub returns : goal.returns
 returns g c =
-    reported_is_full_run c.one_settings.ensures _ _ _ c.answer-outcome.result c.report.result c.answer-outcome.ensures.cause c.answer-outcome.ensures.prints c.report.ensures
+    reported_is_full_run c.one_settings.ensures _ _ _ c.answer_alone-outcome.result c.report.result c.answer_alone-outcome.ensures.cause c.answer_alone-outcome.ensures.prints c.report.ensures

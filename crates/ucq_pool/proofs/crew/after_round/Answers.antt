@@ -1,4 +1,4 @@
-use Rattle.std.proofs.Common.{◌≡◌, ◌≤◌, ◌<◌, ◌^◌, sym, subst, ℕ, ◌∙◌, arith}
+use Rattle.std.proofs.Common.{◌≤◌, sym, subst, ℕ, ◌∙◌, arith}
 use Rattle.ucq_pool.proofs.Rested.{at_rest, uncut_here}
 use Rattle.ucq_pool.proofs.crew.after_round.Goals as goal
 

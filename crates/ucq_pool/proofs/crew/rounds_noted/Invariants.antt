@@ -1,4 +1,4 @@
-use Rattle.std.proofs.Common.{◌≡◌, ◌≤◌}
+use Rattle.std.proofs.Common.{◌≡◌}
 use Rattle.ucq_hom.specs.Space.{IsClear}
 use Rattle.ucq_pool.proofs.crew.rounds_noted.Given as goal
 

@@ -4,12 +4,12 @@ use Rattle.ucq_step.specs.Steps.{IsStepFault}
 use Rattle.ucq_pool.proofs.Found.{found_more, wide_step}
 use Rattle.ucq_pool.proofs.rewritings.rewrite_with.Goals as goal
 
-pub returns-in_ok-propose-in-Ok-clause-found : goal.returns-in_ok-propose-in-Ok-clause-found
-returns-in_ok-propose-in-Ok-clause-found c =
+pub returns-in_ok-propose_all-in-Ok-clause-found : goal.returns-in_ok-propose_all-in-Ok-clause-found
+returns-in_ok-propose_all-in-Ok-clause-found g c =
     found_more c.args.rules.now c.args.number c.index-rules-number.result c.requires.rule c.index-rules-number.is c.args.query.now _ _ _ c.requires.below
-    c.in-Ok.ensures.steps c.in_ok-propose-in-Ok.ensures
+    c.in-Ok.ensures.steps c.in_ok-propose_all-in-Ok.ensures.proposed
 
 pub returns-in-Err-Wide-clause-found : goal.returns-in-Err-Wide-clause-found
-returns-in-Err-Wide-clause-found c =
+returns-in-Err-Wide-clause-found g c =
     wide_step c.args.rules.now c.args.number c.index-rules-number.result c.requires.rule c.index-rules-number.is c.args.query.now c.in-Err-Wide.count
     (subst (λ (f : StepFault). IsStepFault c.args.query.now c.index-rules-number.result f) c.in-Err-Wide.field-0-is c.in-Err-Wide.ensures.steps)

@@ -1,4 +1,4 @@
-use Rattle.std.proofs.Common.{◌≡◌, ◌<◌, ◌∙◌, List, [], ◌∷◌, length, arith, subst, sym}
+use Rattle.std.proofs.Common.{◌<◌, ◌∙◌, List, [], ◌∷◌, length, arith, subst, sym}
 use Rattle.ucq_terms.specs.Syntax.{Query}
 use Rattle.ucq_store.specs.Candidates.{Candidate}
 use Rattle.ucq_store.specs.Reports.{Report, AreFound, HasPlace}

@@ -1,4 +1,3 @@
-use Rattle.std.proofs.Common.{◌≡◌, length}
 use Rattle.ucq_hom.specs.Space.{IsClear}
 use Rattle.ucq_pool.specs.Shared.{IsAtWork}
 use Rattle.ucq_pool.proofs.worker.Worker.work.Given as goal

@@ -1,0 +1,34 @@
+-- What is asked is answered.
+use Rattle.std.proofs.Common.{ℕ, List, [], inl, inr, refl, sym, subst}
+use Rattle.std.specs.Prelude.{Option, Some, None}
+use Rattle.std.proofs.lemmas.List.{append-nil}
+use Rattle.ucq_run.specs.declared.asked.Asked.{Asked}
+use Rattle.ucq_run.specs.declared.outcome.Outcome.{Outcome}
+use Rattle.ucq_run.specs.declared.outcome.Outcome.TheVariants.{Finished, Cut, NoMemory, BadWords, ReadFault as ReadFaultAt, TooLong, Refused, WriteFault}
+use Rattle.ucq_run.specs.Inputs.{Call}
+use Rattle.ucq_run.specs.Causes.{IsCause}
+use Rattle.ucq_run.specs.Asked.{Asks, question_in}
+use Rattle.ucq_run.specs.Output.{Question, SinkChange, change_of, TookAll, IsEarly, PrintsFor, Prints}
+
+-- an outcome that prints has no other cause
+pub printed_has_cause : (call : Call) (q : Question) (out : SinkChange) (o : Outcome) → PrintsFor q out o → IsCause call o
+printed_has_cause call q out Finished h = tt
+printed_has_cause call q out Cut h = tt
+printed_has_cause call q out NoMemory h = tt
+printed_has_cause call q out WriteFault h = tt
+printed_has_cause call q out BadWords h = absurd h
+printed_has_cause call q out (ReadFaultAt file at) h = absurd h
+printed_has_cause call q out (TooLong file) h = absurd h
+printed_has_cause call q out (Refused fault) h = absurd h
+
+pub printed : (call : Call) (a : Asked) (out : SinkChange) (o : Outcome) → Asks call a → PrintsFor (question_in a) out o → Prints call out o
+printed call a out o asks prints =
+    inl (record { settings = asks.settings; input = asks.input; asked = asks.asked; prints = subst (λ (q : Question). PrintsFor q out o) asks.question prints })
+
+-- a sink that was not touched took nothing
+took_nothing : (taken : Option (List ℕ)) (faults : ℕ) → TookAll (change_of taken taken faults faults) []
+took_nothing None faults = tt
+took_nothing (Some bytes) faults = (bytes, refl, sym (append-nil bytes))
+
+pub unprinted : (call : Call) (taken : Option (List ℕ)) (faults : ℕ) (o : Outcome) → IsEarly o → Prints call (change_of taken taken faults faults) o
+unprinted call taken faults o early = inr (early, took_nothing taken faults)
