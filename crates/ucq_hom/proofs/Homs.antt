@@ -1,5 +1,5 @@
 -- What a search from nothing bound finds: a homomorphism, or that there is none.
-use Rattle.std.proofs.Common.{◌≡◌, ℕ, List, [], ◌∷◌, length, Some, None, Contains, refl, sym, ap, ◌∙◌, subst, inl, inr}
+use Rattle.std.proofs.Common.{◌≡◌, ◌<◌, ℕ, List, [], ◌∷◌, length, Some, None, Contains, refl, sym, ap, ◌∙◌, subst, inl, inr}
 use Rattle.std.specs.List.{remove}
 use Rattle.std.proofs.lemmas.List.Elements.{Contains-get_or}
 use Rattle.ucq_terms.specs.declared.Term.{Term}
@@ -8,6 +8,7 @@ use Rattle.ucq_terms.specs.Syntax.{Atom, Query, atom_image}
 use Rattle.ucq_terms.specs.Homomorphism.{IsHomomorphism, MapsInto}
 use Rattle.ucq_terms.specs.Query.{IsStored}
 use Rattle.ucq_terms.specs.Unifier.{atom_at}
+use Rattle.ucq_terms.proofs.Lists.{Contains-cons_cases, Contains-empty}
 use Rattle.ucq_terms.proofs.Images.{IsSubset-from_image, IsSubset-image}
 use Rattle.ucq_terms.proofs.Places.{place_of}
 use Rattle.ucq_terms.proofs.Subsets.{OccursIn-atom}
@@ -71,12 +72,16 @@ Sends-homomorphism h q order targets tuple p s = record {
   each = λ place i. IsSubset-image h q.atoms targets s.atoms (atom_at q.atoms place) (Contains-get_or q.atoms place _ (p.within place i));
 }
 
--- where the atoms are blocked, there is none either
-pub none_by_block : (a b : Bound) (levels : List ℕ) (set : ℕ) (q : Query) (order : List ℕ) (targets : List Atom) (tuple : List Term) → IsClear a.images → IsMatched a b q.answers tuple →
-    IsOrder q.atoms order → IsBlocked b levels set q.atoms order targets → MapsInto q targets tuple → ⊥
-none_by_block a b levels set q order targets tuple clear m o k s =
+-- where the atoms at some places are blocked, there is none either
+pub none_by_block : (a b : Bound) (levels : List ℕ) (set : ℕ) (q : Query) (places : List ℕ) (targets : List Atom) (tuple : List Term) → IsClear a.images → IsMatched a b q.answers tuple →
+    ArePlaces q.atoms places → IsBlocked b levels set q.atoms places targets → MapsInto q targets tuple → ⊥
+none_by_block a b levels set q places targets tuple clear m p k s =
     k.none s.mapping (ExtendsAt-all s.mapping b levels set (m.forced s.mapping (Extends-clear s.mapping a clear) s.homomorphism.answers))
-    (Sends-homomorphism s.mapping q order targets tuple o.places s.homomorphism)
+    (Sends-homomorphism s.mapping q places targets tuple p s.homomorphism)
+
+-- one place of an atom
+pub ArePlaces-one : (atoms : List Atom) (place : ℕ) → place < length atoms → ArePlaces atoms (place ∷ [])
+ArePlaces-one atoms place l = record { within = λ x i. elim (Contains-cons_cases place [] x i) [ inl e ↦ subst (λ (k : ℕ). k < length atoms) e l | inr j ↦ absurd (Contains-empty x j) ] }
 
 -- a list without the element past its end is the list
 pub remove_past : (xs : List Atom) → remove xs (length xs) ≡ xs

@@ -120,6 +120,25 @@ pub fn covers(space: &mut HomSpace, from: &Query, to: &Query) -> bool
     )
 }
 
+/// Whether some map that keeps the answers sends the atom at the place to another one of the query. Most atoms have no other
+/// image, and this is told without an order of the atoms and a search for all of them.
+fn has_other_image(bindings: &mut Bindings, levels: &mut [u32], query: &Query, place: u32) -> bool
+    requires within { place < length query.now.atoms }
+    requires levels { length levels.old ≡ VARIABLES }
+    ensures none { result ≡ false → MapsInto query.now (remove query.now.atoms place) query.now.answers → ⊥ }
+    ensures clear { IsClear bindings.new.images }
+    ensures levels { length levels.new ≡ VARIABLES }
+{
+    bindings.clear();
+    let atoms = query.atoms();
+    if !match_terms(bindings, query.answers(), query.answers()) {
+        return false;
+    }
+    let found = extend(bindings, levels, atoms, atoms, place as usize, &[place], 0).is_none();
+    bindings.clear();
+    found
+}
+
 /// Whether a homomorphism leads from the query to itself without the atom at `skip`, with the same answers. If so,
 /// `image_of` tells it.
 pub fn find_without(space: &mut HomSpace, query: &Query, skip: u32) -> bool
@@ -128,7 +147,12 @@ pub fn find_without(space: &mut HomSpace, query: &Query, skip: u32) -> bool
     ensures found { result ≡ true → GivesHomomorphism space.new query.now (remove query.now.atoms skip) query.now.answers }
     ensures clear { result ≡ false → IsClear space.new }
 {
-    find(
+    has_other_image(
+        &mut space.bindings,
+        space.levels.as_mut_slice(),
+        query,
+        skip,
+    ) && find(
         &mut space.bindings,
         space.levels.as_mut_slice(),
         space.order.as_mut_slice(),

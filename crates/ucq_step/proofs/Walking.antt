@@ -1,5 +1,7 @@
 -- How the cores grow along a walk.
-use Rattle.std.proofs.Common.{◌≡◌, ◌<◌, ◌⊎◌, ℕ, List, [], sym, subst}
+use Rattle.std.proofs.Common.{◌≡◌, ◌<◌, ◌⊎◌, ℕ, List, [], ◌∷◌, length, nat_eq, true, arith, sym, subst}
+use Rattle.ucq_terms.proofs.Equality.{IsEquality-nat_eq, eq_same}
+use Rattle.ucq_terms.proofs.Lists.{Contains-first}
 use Rattle.ucq_terms.specs.Syntax.{Rule, Query}
 use Rattle.ucq_unify.specs.Pieces.{AreSinglePieces}
 use Rattle.ucq_join.specs.Names.{Named}
@@ -8,7 +10,7 @@ use Rattle.ucq_step.specs.Building.{IsTold}
 use Rattle.ucq_step.specs.Kept.{AreDifferent, HasKept}
 use Rattle.ucq_step.specs.Steps.{IsCoreAt, AreCoresUpTo, AreSteps}
 use Rattle.ucq_step.proofs.Ranks.{left_of, left_of-next}
-use Rattle.ucq_step.proofs.Stepped.{AreCoresUpTo-more, AreSteps-last}
+use Rattle.ucq_step.proofs.Stepped.{AreCoresUpTo-more, AreCoresUpTo-none, AreSteps-last}
 
 pub ArePieces-single : (q : Query) (rule : Rule) (pieces : List (List (ℕ × ℕ))) → AreSinglePieces q rule pieces → ArePieces q rule pieces
 ArePieces-single q rule pieces S = record { single = S.single; once = S.once }
@@ -62,3 +64,16 @@ pub AreSteps-end : (w : Walk) (q : Query) (rule : Rule) (pieces : List (List (�
     AreSinglePieces q rule pieces → IsLast w → AreDifferent cores → AreCoresUpTo w.query w.rule w.pieces w.present cores → AreSteps q rule cores
 AreSteps-end w q rule pieces cores W S L D U =
     subst (λ r. AreSteps q r cores) W.same_rule (subst (λ x. AreSteps x w.rule cores) W.same_query (AreSteps-last w cores (to_walk AreSinglePieces w q rule pieces W S) L D U))
+
+-- where there are no pieces, there are no steps
+pub AreSteps-none : (q : Query) (rule : Rule) (pieces : List (List (ℕ × ℕ))) → AreSinglePieces q rule pieces → nat_eq (length pieces) 0 ≡ true → AreSteps q rule []
+AreSteps-none q rule (piece ∷ pieces) S e = let none : length (piece ∷ pieces) ≡ 0 = eq_same nat_eq IsEquality-nat_eq (length (piece ∷ pieces)) 0 e in absurd (omega arith)
+AreSteps-none q rule [] S e =
+    AreSteps-last start [] S (record { none = λ other j after. nowhere other j }) (λ i j d l m. absurd (omega arith)) (AreCoresUpTo-none q rule [])
+  where
+    start : Walk
+    start = record { query = q; rule = rule; pieces = []; present = [] }
+
+    nowhere : (other : List ℕ) → IsJoinOf start other → ⊥
+    nowhere [] j = let some : 0 < 0 = j.aggregate.nonempty in omega arith
+    nowhere (place ∷ places) j = let within : place < 0 = j.within place (Contains-first place places) in omega arith

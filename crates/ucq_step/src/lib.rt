@@ -101,6 +101,11 @@ pub fn step(
 {
     space.clear();
     let pieces = single_pieces(alloc, query, rule)?;
+    if pieces.is_empty() {
+        return Ok(Steps {
+            cores: Vec::new(alloc),
+        });
+    }
     let mut joins = Joins::new(alloc, query, rule, pieces.as_slice())?;
     let mut kept = Kept::new(alloc);
     while let Some(joined) = joins.next()? {

@@ -1,11 +1,11 @@
-use Rattle.std.proofs.Common.{◌≡◌, ℕ, List, [], refl, sym, ap, ◌∙◌, subst, inl, inr, Option, Ok, Some, None}
+use Rattle.std.proofs.Common.{◌≡◌, ℕ, List, [], nat_eq, true, refl, sym, ap, ◌∙◌, subst, inl, inr, Option, Ok, Some, None}
 use Rattle.ucq_terms.specs.Syntax.{Query}
 use Rattle.ucq_unify.specs.Pieces.{AreSinglePieces}
 use Rattle.ucq_join.specs.Names.{Named}
 use Rattle.ucq_join.specs.Walk.{Walk, IsStep, IsLast, GoesOn}
-use Rattle.ucq_step.specs.Steps.{IsCoreAt, AreCoresUpTo}
+use Rattle.ucq_step.specs.Steps.{IsCoreAt, AreCoresUpTo, AreSteps}
 use Rattle.ucq_step.proofs.Stepped.{AreCoresUpTo-none}
-use Rattle.ucq_step.proofs.Walking.{ArePieces-single, WalksIn-next, stands-next, left_of-less, AreCoresUpTo-next, AreSteps-end}
+use Rattle.ucq_step.proofs.Walking.{ArePieces-single, WalksIn-next, stands-next, left_of-less, AreCoresUpTo-next, AreSteps-end, AreSteps-none}
 use Rattle.ucq_step.proofs.step.Goals as goal
 
 -- the walk goes on where a step gives a set
@@ -21,8 +21,14 @@ ended before after (Some j) f s = absurd (f j refl)
 single : (q : Query) (rule : _) (items slice walked : List (List (ℕ × ℕ))) → AreSinglePieces q rule items → slice ≡ items → walked ≡ slice → AreSinglePieces q rule walked
 single q rule items slice walked S e f = subst (AreSinglePieces q rule) (sym (f ∙ e)) S
 
-pub new-requires : goal.new-requires
-new-requires c =
+pub returns-then-is_empty-clause-steps : goal.returns-then-is_empty-clause-steps
+returns-then-is_empty-clause-steps c =
+    subst (λ (cores : List Query). AreSteps c.args.query.now c.args.rule.now cores) (sym c.new.ensures.items)
+    (AreSteps-none c.args.query.now c.args.rule.now c.in_ok-pieces.pieces.items c.in_ok-pieces.ensures
+    (subst (λ (n : ℕ). nat_eq n 0 ≡ true) c.in_ok-pieces.pieces.ok.0 (sym c.is_empty.ensures ∙ c.if-is_empty.true)))
+
+pub new-requires-2 : goal.new-requires-2
+new-requires-2 c =
     ArePieces-single c.args.query.now c.args.rule.now c.as_slice.result.now
     (single c.args.query.now c.args.rule.now c.in_ok-pieces.pieces.items c.as_slice.result.now c.as_slice.result.now c.in_ok-pieces.ensures
     c.as_slice.ensures.value refl)

@@ -42,6 +42,6 @@ returns-clause-none c = λ _.
     none_by_block c.clear.new.self c.match_terms.new.bindings c.note_since.new.levels set q order targets c.args.answers.now c.clear.ensures
     (subst (λ (x : List Term). IsMatched c.clear.new.self c.match_terms.new.bindings x c.args.answers.now) c.answers.ensures.answers
     (c.match_terms.ensures.matched c.if-not-match_terms.false))
-    (subst (λ (x : List Atom). IsOrder x order) c.atoms-atoms.ensures.atoms c.order_atoms.ensures)
+    (subst (λ (x : List Atom). IsOrder x order) c.atoms-atoms.ensures.atoms c.order_atoms.ensures).places
     (subst (λ (x : List Atom). IsBlocked c.match_terms.new.bindings c.note_since.new.levels set x order targets) c.atoms-atoms.ensures.atoms
     (c.extend.ensures.blocked set is))
