@@ -1,14 +1,12 @@
 -- A word of a query, by which most pairs of queries are seen to cover nothing: it has a bit for each predicate, and one for each
 -- constant at its place.
-use Rattle.std.specs.Prelude.{◌≡◌, ℕ, ◌+◌, ◌*◌, ◌%◌, ◌^◌, ◌<◌, ◌≤◌, List, length, fold, bit_or, slice_index_or}
+use Rattle.std.specs.Prelude.{ℕ, ◌+◌, ◌*◌, ◌%◌, ◌^◌, ◌≤◌, fold, bit_or}
 use Rattle.std.specs.Int.{bit_at}
 use Rattle.std.specs.Int.Bits.{bit_xor}
 use Rattle.std.specs.List.{enumerate_from}
 use Rattle.ucq_terms.specs.declared.Term.{Term}
 use Rattle.ucq_terms.specs.declared.Term.TheVariants.{Constant, Variable}
 use Rattle.ucq_terms.specs.Syntax.{Atom, Query}
-use Rattle.ucq_antichain.specs.declared.Row.{Row}
-use Rattle.ucq_antichain.specs.Rows.{query_at}
 
 -- the bit of a number
 abbrev pub bit : ℕ → ℕ
@@ -28,8 +26,3 @@ query_word q = fold (λ (word : ℕ) (a : Atom). bit_or word (atom_word a)) 0 q.
 -- each bit of the one word is a bit of the other
 pub record IsWithin (word other : ℕ) : Type 0 where
   pub each : (i : ℕ) → bit_at word i ≤ bit_at other i
-
--- the words are those of the rows' queries
-pub record AreWords (words : List ℕ) (rows : List Row) : Type 0 where
-  pub count : length words ≡ length rows
-  pub each : (row : ℕ) → row < length rows → slice_index_or words row 0 ≡ query_word (query_at rows row)

@@ -1,13 +1,15 @@
 //! Rows of queries, live and dead: a new row makes those dead that it covers, and none is added that a live one covers.
 #![tactic(auto)]
 
-ghost use Rattle.std.specs.Prelude.{◌≡◌, ◌+◌, ◌<◌, ◌≤◌, ◌++◌, ◌∷◌, [], length, IfOk, IsTrue, ◌↔◌, vec_len};
+ghost use Rattle.std.specs.Prelude.{◌≡◌, ◌+◌, ◌<◌, ◌≤◌, ◌++◌, ◌∷◌, [], length, filter, IfOk, IsTrue, ◌↔◌, vec_len};
 ghost use Rattle.std.specs.Vec.{vec_capacity};
 ghost use Rattle.ucq_terms.specs.Homomorphism.{Covers};
 ghost use Rattle.ucq_terms.specs.Query.{IsStored};
 ghost use Rattle.ucq_hom.specs.Space.{IsClear};
-ghost use Rattle.ucq_antichain.specs.Rows.{row_at, query_at, live_queries};
-ghost use Rattle.ucq_antichain.specs.Signatures.{query_word as word_of, AreWords};
+ghost use Rattle.ucq_antichain.specs.declared.Entry.{Entry as EntryValue};
+ghost use Rattle.ucq_antichain.specs.Rows.{row_at, query_at, live_queries, IsLiveAt};
+ghost use Rattle.ucq_antichain.specs.Signatures.{query_word as word_of};
+ghost use Rattle.ucq_antichain.specs.Entries.{AreEntries, IsEntry};
 ghost use Rattle.ucq_antichain.specs.Calls.{IsCoverIn, MayDie, IsPruned, DoesAdd};
 
 mod signatures;
@@ -25,13 +27,20 @@ pub struct Row {
     pub live: bool,
 }
 
+// A row that may be live, with the word of its query.
+#[derive(Clone, Copy)]
+struct Entry {
+    row: u32,
+    word: u64,
+}
+
 /// Up to `budget` rows, in the order in which they were added. Contracts see it as the budget and the list of rows.
 #[derive(Drop)]
 pub struct Antichain {
     budget: u32,
     rows: Vec<Row>,
-    // the word of each row's query
-    words: Vec<u64>,
+    // each live row, in order, with the word of its query
+    entries: Vec<Entry>,
     // empty, with room for all rows, so that `into_live` takes no memory
     room: Vec<Query>,
 }
@@ -40,13 +49,13 @@ impl Model for Antichain {
     ghost use Rattle.std.specs.Prelude.{◌≡◌, ◌≤◌, [], length};
     ghost use Rattle.std.specs.Vec.{vec_capacity};
     ghost use Rattle.ucq_antichain.specs.Rows.{Kept};
-    ghost use Rattle.ucq_antichain.specs.Signatures.{AreWords};
+    ghost use Rattle.ucq_antichain.specs.Entries.{AreEntries};
 
     ghost Value = { Kept };
 
     ghost view = { λ a. record { budget = a.budget; rows = a.rows.items } };
 
-    ghost invariant = { λ a. (a.budget ≤ 65536) × (length a.rows.items ≤ a.budget) × (a.budget ≤ vec_capacity a.rows) × (a.room.items ≡ []) × (a.budget ≤ vec_capacity a.room) × AreWords a.words.items a.rows.items × (a.budget ≤ vec_capacity a.words) };
+    ghost invariant = { λ a. (a.budget ≤ 65536) × (length a.rows.items ≤ a.budget) × (a.budget ≤ vec_capacity a.rows) × (a.room.items ≡ []) × (a.budget ≤ vec_capacity a.room) × AreEntries a.entries.items a.rows.items × (a.budget ≤ vec_capacity a.entries) };
 }
 
 /// What became of a query that was to be added.
@@ -68,12 +77,12 @@ impl Antichain {
         ensures { IfOk result (λ a. a ≡ record { budget = budget; rows = [] }) }
     {
         let rows = Vec::with_capacity(alloc, budget as usize)?;
-        let words = Vec::with_capacity(alloc, budget as usize)?;
+        let entries = Vec::with_capacity(alloc, budget as usize)?;
         let room = Vec::with_capacity(alloc, budget as usize)?;
         Ok(Antichain {
             budget,
             rows,
-            words,
+            entries,
             room,
         })
     }
@@ -121,7 +130,7 @@ impl Antichain {
         first_cover(
             space,
             self.rows.as_slice(),
-            self.words.as_slice(),
+            self.entries.as_slice(),
             query,
             word,
         )
@@ -138,7 +147,7 @@ impl Antichain {
         let covered = first_cover(
             space,
             self.rows.as_slice(),
-            self.words.as_slice(),
+            self.entries.as_slice(),
             &query,
             word,
         );
@@ -148,16 +157,16 @@ impl Antichain {
         if self.rows.len() == self.budget as usize {
             return Added::Full { query };
         }
-        let pruned = prune(
+        let pruned = prune_all(
             space,
             self.rows.as_mut_slice(),
-            self.words.as_slice(),
+            &mut self.entries,
             &query,
             word,
         );
         let row = self.rows.len() as u32;
         push_within(&mut self.rows, Row { query, live: true });
-        push_within(&mut self.words, word);
+        push_within(&mut self.entries, Entry { row, word });
         Added::Added { row, pruned }
     }
 
@@ -174,24 +183,23 @@ impl Antichain {
     }
 }
 
-// Whether the first query covers the second, by their words and then by a search. Nothing is left in the space.
-fn does_cover(
-    space: &mut HomSpace,
-    general: &Query,
-    general_word: u64,
-    special: &Query,
-    special_word: u64,
-) -> bool
-    requires general { general_word ≡ word_of general.now }
-    requires special { special_word ≡ word_of special.now }
+// Whether the entry's row is live and covers the query. Its word is looked at first, since most are told by it. Nothing is
+// left in the space.
+fn is_cover(space: &mut HomSpace, rows: &[Row], entry: Entry, query: &Query, word: u64) -> bool
+    requires entry { IsEntry rows.now entry }
+    requires word { word ≡ word_of query.now }
     requires clear { IsClear space.old }
-    ensures covers { IsTrue result ↔ Covers general.now special.now }
+    ensures covers { IsTrue result ↔ (IsLiveAt rows.now entry.row × Covers (query_at rows.now entry.row) query.now) }
     ensures clear { IsClear space.new }
 {
-    if !may_cover(general_word, special_word) {
+    if !may_cover(entry.word, word) {
         return false;
     }
-    let found = covers(space, general, special);
+    let row = &rows[entry.row as usize];
+    if !row.live {
+        return false;
+    }
+    let found = covers(space, &row.query, query);
     space.clear();
     found
 }
@@ -200,45 +208,68 @@ fn does_cover(
 fn first_cover(
     space: &mut HomSpace,
     rows: &[Row],
-    words: &[u64],
+    entries: &[Entry],
     query: &Query,
     word: u64,
 ) -> Option<u32>
-    requires few { length rows.now ≤ 65536 }
-    requires words { AreWords words.now rows.now }
+    requires entries { AreEntries entries.now rows.now }
     requires word { word ≡ word_of query.now }
     ensures cover { IsCoverIn rows.now query.now result }
     ensures clear { IsClear space.new }
 {
     space.clear();
-    for (place, row) in rows.iter().enumerate() {
-        if row.live && does_cover(space, &row.query, words[place], query, word) {
-            return Some(place as u32);
+    for entry in entries {
+        if is_cover(space, rows, *entry, query, word) {
+            return Some(entry.row);
         }
     }
     None
 }
 
-// Makes the live rows dead that the query covers, and counts them.
-fn prune(space: &mut HomSpace, rows: &mut [Row], words: &[u64], query: &Query, word: u64) -> u32
-    requires few { length rows.old ≤ 65536 }
-    requires words { AreWords words.now rows.old }
+// Makes the live rows dead that the query covers, counts them, and drops their entries.
+fn prune_all(
+    space: &mut HomSpace,
+    rows: &mut [Row],
+    entries: &mut Vec<Entry>,
+    query: &Query,
+    word: u64,
+) -> u32
+    requires entries { AreEntries entries.old.items rows.old }
     requires word { word ≡ word_of query.now }
+    requires few { length rows.old ≤ 65536 }
+    requires clear { IsClear space.old }
+    ensures pruned { IsPruned query.now rows.old rows.new result }
+    ensures entries { AreEntries entries.new.items rows.new }
+    ensures capacity { vec_capacity entries.new ≡ vec_capacity entries.old }
+    ensures clear { IsClear space.new }
+{
+    let pruned = prune(space, rows, entries.as_slice(), query, word);
+    if pruned > 0 {
+        drop_dead(entries, rows);
+    }
+    pruned
+}
+
+// Makes the live rows dead that the query covers, and counts them.
+fn prune(space: &mut HomSpace, rows: &mut [Row], entries: &[Entry], query: &Query, word: u64) -> u32
+    requires entries { AreEntries entries.now rows.old }
+    requires word { word ≡ word_of query.now }
+    requires few { length rows.old ≤ 65536 }
     requires clear { IsClear space.old }
     ensures pruned { IsPruned query.now rows.old rows.new result }
     ensures clear { IsClear space.new }
 {
     let mut pruned = 0;
-    for place in 0..rows.len() {
-        let row = &mut rows[place];
-        if dies(space, row, words[place], query, word) {
+    for entry in entries {
+        let row = &mut rows[entry.row as usize];
+        if dies(space, row, entry.word, query, word) {
             pruned += 1;
         }
     }
     pruned
 }
 
-// Makes the row dead if it is live and the query covers it, and says whether it does.
+// Makes the row dead if it is live and the query covers it, and says whether it does. Its word is looked at first.
 fn dies(space: &mut HomSpace, row: &mut Row, row_word: u64, query: &Query, word: u64) -> bool
     requires row { row_word ≡ word_of row.old.query }
     requires word { word ≡ word_of query.now }
@@ -246,11 +277,32 @@ fn dies(space: &mut HomSpace, row: &mut Row, row_word: u64, query: &Query, word:
     ensures dies { MayDie query.now row.old result row.new }
     ensures clear { IsClear space.new }
 {
-    if row.live && does_cover(space, query, word, &row.query, row_word) {
-        row.live = false;
-        return true;
+    if !may_cover(word, row_word) || !row.live {
+        return false;
     }
-    false
+    let found = covers(space, query, &row.query);
+    space.clear();
+    if found {
+        row.live = false;
+    }
+    found
+}
+
+fn is_live_at(rows: &[Row], row: u32) -> bool
+    ensures { result ≡ (row_at rows.now row).live }
+{
+    match rows.get(row as usize) {
+        Some(row) => row.live,
+        None => false,
+    }
+}
+
+// Keeps the entries of live rows alone.
+fn drop_dead(entries: &mut Vec<Entry>, rows: &[Row])
+    ensures live { entries.new.items ≡ filter (λ (e : EntryValue). (row_at rows.now e.row).live) entries.old.items }
+    ensures capacity { vec_capacity entries.new ≡ vec_capacity entries.old }
+{
+    entries.retain(|entry| is_live_at(rows, entry.row));
 }
 
 // Adds an item for which there is room.
