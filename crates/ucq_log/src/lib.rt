@@ -4,7 +4,8 @@
 //! keeps the entries that it added itself is sure to see each of these; those of others it sees as they come.
 #![tactic(auto)]
 
-ghost use Rattle.std.specs.Prelude.{◌≡◌, ◌≤◌, All, length, IfOk, IfErr, IfSome};
+ghost use Rattle.std.specs.Prelude.{◌≡◌, ◌≤◌, ◌↔◌, All, length, IfOk, IfErr, IfSome, IsTrue};
+ghost use Rattle.ucq_terms.specs.Homomorphism.{Covers};
 ghost use Rattle.ucq_hom.specs.Space.{IsClear};
 ghost use Rattle.ucq_log.specs.Words.{query_word as word_of};
 ghost use Rattle.ucq_log.specs.Log.{IsOf, Holds, IsCover, IsCoverIn, IsSeen};
@@ -15,12 +16,16 @@ mod signatures;
 
 use boxcar::Pushed;
 use notes::Noted;
-use signatures::query_word;
+use signatures::{may_cover, query_word};
 use std::alloc::Global;
 use std::marker::Model;
 use std::sync::Wait;
 use ucq_hom::HomSpace;
 use ucq_terms::{NoMemory, Query};
+
+// How many of the last entries of a log are looked at for a caller who didn't add them. What was added longer ago has most
+// likely been seen by the store already.
+const NEWEST: usize = 256;
 
 /// Rows and their queries, each at a place of its own. Contracts see it as what tells it from other logs.
 #[derive(Drop)]
@@ -40,14 +45,20 @@ impl Model for Log {
 #[derive(Drop)]
 pub struct Entry {
     pushed: Pushed<Noted>,
+    // the word of the query, so that most entries are passed over without a look at the log
+    word: u64,
 }
 
 impl Model for Entry {
+    ghost use Rattle.std.specs.Prelude.{◌≡◌};
     ghost use Rattle.ucq_log.specs.Notes.{Placed};
+    ghost use Rattle.ucq_log.specs.Words.{query_word};
 
     ghost Value = { Placed };
 
     ghost view = { λ e. record { place = e.pushed.index; row = e.pushed.value.row; query = e.pushed.value.query; mark = record { part = e.pushed.bucket; name = e.pushed.row } } };
+
+    ghost invariant = { λ e. e.word ≡ query_word e.pushed.value.query };
 }
 
 /// Want of memory for an entry. The query comes back.
@@ -78,8 +89,10 @@ impl Log {
         ensures held { IfOk result (λ e. Holds self.now row query e) }
         ensures back { IfErr result (λ u. u.query ≡ query) }
     {
-        match self.vec.push_shown(rt, Noted::new(row, query)) {
-            Ok(pushed) => Ok(Entry { pushed }),
+        let noted = Noted::new(row, query);
+        let word = noted.word();
+        match self.vec.push_shown(rt, noted) {
+            Ok(pushed) => Ok(Entry { pushed, word }),
             Err(noted) => Err(Unkept {
                 query: noted.into_query(),
             }),
@@ -103,8 +116,8 @@ impl Log {
     }
 
     /// Looks for an entry whose query covers the given one: first among the caller's own entries, at most 65,536 of this
-    /// log, in order, and then among the others that the log has, from the newest on. `None` says that none of the own ones
-    /// covers it; another one may have been missed. Takes no memory, and searches up to two homomorphisms for each entry.
+    /// log, in order, and then among the newest of the log, from the last one back. `None` says that none of the own ones
+    /// covers it; another one may have been missed. Takes no memory, and searches up to one homomorphism for each entry.
     pub fn seen(&self, space: &mut HomSpace, own: &[Entry], query: &Query) -> Option<Seen>
         requires few { length own.now ≤ 65536 }
         requires ours { All (λ e. IsOf self.now e) own.now }
@@ -138,16 +151,29 @@ impl Log {
         ensures clear { IsClear space.new }
     {
         for (place, entry) in entries.iter().enumerate() {
-            let noted = self.vec.value(&entry.pushed);
-            if noted.does_cover(space, query, word) {
+            if self.is_cover(space, entry, query, word) {
                 return Some(place as u32);
             }
         }
         None
     }
 
-    // An entry whose query covers the given one, the newest that is found. The own entries are passed over where they stand
-    // in order of place, as a caller that adds one after another has them.
+    // Whether the entry's query covers the given one.
+    fn is_cover(&self, space: &mut HomSpace, entry: &Entry, query: &Query, word: u64) -> bool
+        requires ours { IsOf self.now entry.now }
+        requires word { word ≡ word_of query.now }
+        requires clear { IsClear space.old }
+        ensures covers { IsTrue result ↔ Covers entry.now.query query.now }
+        ensures clear { IsClear space.new }
+    {
+        if !may_cover(entry.word, word) {
+            return false;
+        }
+        self.vec.value(&entry.pushed).does_cover(space, query, word)
+    }
+
+    // An entry whose query covers the given one, the newest that is found among the last `NEWEST`. The own entries are passed
+    // over where they stand in order of place, as a caller that adds one after another has them.
     fn newest_cover(
         &self,
         space: &mut HomSpace,
@@ -161,7 +187,8 @@ impl Log {
         ensures clear { IsClear space.new }
     {
         let mut left = own.len();
-        for place in (0..self.vec.count()).rev() {
+        let count = self.vec.count();
+        for place in (count.saturating_sub(NEWEST)..count).rev() {
             if left > 0 && own[left - 1].place() == place as u64 {
                 left -= 1;
             } else if let Some(entry) = self.cover_at(space, place, query, word) {
@@ -187,8 +214,10 @@ impl Log {
         let Some(pushed) = self.vec.witness(place) else {
             return None;
         };
-        if self.vec.value(&pushed).does_cover(space, query, word) {
-            return Some(Entry { pushed });
+        let noted = self.vec.value(&pushed);
+        if noted.does_cover(space, query, word) {
+            let word = noted.word();
+            return Some(Entry { pushed, word });
         }
         None
     }

@@ -50,6 +50,12 @@ impl Noted {
         &self.query
     }
 
+    pub(crate) fn word(&self) -> u64
+        ensures { result ≡ word_of self.now.query }
+    {
+        self.word
+    }
+
     pub(crate) fn into_query(self) -> Query
         ensures { result ≡ self.query }
     {
