@@ -13,3 +13,5 @@ mod Meetings
 pub mod Soundness
 pub mod Cores
 pub mod Unions
+pub mod Names
+pub mod Kept

@@ -5,7 +5,8 @@
 //! Web 6, 2015, where unifiers are worded otherwise.
 #![tactic(auto)]
 
-ghost use Rattle.ucq_chase.specs.Laws.{ClosedIsComplete, CoreOfSoundIsSound, CoversIsKept, ExactIsUnique, OneStepIsSound, PullBack, SoundIsCarried};
+ghost use Rattle.ucq_chase.specs.Laws.{ClosedIsComplete, CoreOfSoundIsSound, CoversIsKept, EquivalentKeepsExact, ExactIsUnique, NumberingKeepsExact, OneStepIsSound, PullBack, SoundIsCarried};
+ghost use Rattle.ucq_chase.specs.Names.{CoreKeepsNames, CoveringKeepsNames, OneStepKeepsNames};
 
 /// Where a sound query maps into facts with a tuple, the tuple is an answer of the chase over these facts. So a core of a
 /// sound query is sound too.
@@ -50,10 +51,25 @@ pub fn exact_is_unique()
     ensures { ExactIsUnique }
 {}
 
+/// An exact union stays one where the variables of its queries are numbered otherwise, and where the problem's query
+/// becomes an equivalent one.
+pub fn exact_is_kept()
+    ensures numbering { NumberingKeepsExact }
+    ensures equivalent { EquivalentKeepsExact }
+{}
+
 /// Where one query covers another, it covers each one-step rewriting of the other, itself or by a one-step rewriting of its
 /// own with the same rule. So a covered query may be pruned before it is rewritten.
 ///
 /// After the lemma on pruning in König and others 2015.
 pub fn covers_is_kept()
     ensures { CoversIsKept }
+{}
+
+/// A rewriting has no names but those of the query and the rules: where each predicate and constant of these is a number
+/// below some count, so is each of a one-step rewriting of the query, of a query that covers it, and of a core of it.
+pub fn rewriting_keeps_names()
+    ensures one_step { OneStepKeepsNames }
+    ensures covering { CoveringKeepsNames }
+    ensures core { CoreKeepsNames }
 {}

@@ -39,7 +39,7 @@ finished_is_closed s law end = (
   },
 )
 
-live_are_sound_cores : (s : Store) → IsLawful s → (q : Query) → Contains (live_queries s.rows) q → IsSoundCore s.problem q
+pub live_are_sound_cores : (s : Store) → IsLawful s → (q : Query) → Contains (live_queries s.rows) q → IsSoundCore s.problem q
 live_are_sound_cores s law q i =
     let (row, live, same) = member_is_live s.rows q i in
     subst (IsSoundCore s.problem) same (law.rows_are_sound_cores.each row (live_is_row s.rows row live))

@@ -47,8 +47,7 @@ pub first_is_sound_core : (problem : Problem) (core : Query) → IsPartInOrder c
 first_is_sound_core problem core part same stored core_of = record {
   sound = core_of_query_is_sound problem core (whole_is_safe problem.query core part same stored.safe) core_of;
   core = core_of.core;
-  once = stored.once;
-  small = stored.few_atoms;
+  stored = stored;
 }
 
 abbrev pub live_row : Query → Row

@@ -23,3 +23,4 @@ pub mod Delivered
 pub mod Opens
 pub mod Worked
 pub mod Places
+pub mod Named

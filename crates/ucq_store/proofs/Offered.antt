@@ -25,8 +25,7 @@ candidate_from s row core law l at derived stored = record {
   sound_core = record {
     sound = derived_is_sound s.problem (query_of s row) core (law.rows_are_sound_cores.each row l).sound derived;
     core = derived.core_of.core;
-    once = stored.once;
-    small = stored.few_atoms;
+    stored = stored;
   };
   derived = derived;
 }

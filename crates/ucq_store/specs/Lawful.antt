@@ -1,7 +1,8 @@
 -- What holds of a store at every moment.
 use Rattle.std.specs.Prelude.{◌≡◌, ◌≢◌, ℕ, ◌+◌, ◌<◌, ◌≤◌, length, List, Option, Some, None}
 use Rattle.ucq_terms.specs.declared.TheConstants.{ATOMS}
-use Rattle.ucq_terms.specs.Syntax.{Rule, Query, Problem, HasEachOnce}
+use Rattle.ucq_terms.specs.Syntax.{Rule, Query, Problem}
+use Rattle.ucq_terms.specs.Query.{IsStored}
 use Rattle.ucq_terms.specs.Homomorphism.{Covers, IsCore, IsCoreOf}
 use Rattle.ucq_terms.specs.Rewriting.{HasWidth, IsOneStep, IsOneStepWith}
 use Rattle.ucq_terms.specs.Union.{IsSound, AreIncomparable}
@@ -12,12 +13,11 @@ use Rattle.ucq_store.specs.declared.Cut.{Cut}
 use Rattle.ucq_store.specs.declared.Cut.TheVariants.{Rows, Wide}
 use Rattle.ucq_store.specs.Store.{Store, IsRow, query_of, IsLive, depth_of, state_of}
 
--- what a row may hold: a sound core that has no atom twice and is small
+-- what a row may hold: a sound core that can be stored, so no atom stands twice, and it has few atoms and variables
 pub record IsSoundCore (problem : Problem) (q : Query) : Type 0 where
   pub sound : IsSound problem q
   pub core : IsCore q
-  pub once : HasEachOnce q.atoms
-  pub small : length q.atoms ≤ ATOMS
+  pub stored : IsStored q
 
 -- a core of a one-step rewriting of the first query
 pub record IsCoreOfOneStep (rules : List Rule) (q core : Query) : Type 0 where

@@ -1,11 +1,12 @@
 -- The laws of a lawful store.
 use Rattle.std.specs.Prelude.{◌≡◌, ℕ, suc, ◌<◌, ◌≤◌, ◌↔◌, length, List, All, Any, Option, None}
 use Rattle.ucq_terms.specs.declared.TheConstants.{ATOMS}
-use Rattle.ucq_terms.specs.Syntax.{Query, Problem}
+use Rattle.ucq_terms.specs.Syntax.{Rule, Query, Problem}
 use Rattle.ucq_terms.specs.Homomorphism.{Covers, IsEquivalent, IsCoreOf}
 use Rattle.ucq_terms.specs.Rewriting.{HasWidth, IsOneStep, IsInLevel}
 use Rattle.ucq_terms.specs.Union.{IsExact}
 use Rattle.ucq_chase.specs.Laws.{IsClosed}
+use Rattle.ucq_chase.specs.Names.{IsHeldQuery, IsHeldRule, IsHeldProblem}
 use Rattle.ucq_antichain.specs.declared.Row.{Row}
 use Rattle.ucq_antichain.specs.Rows.{query_at, IsLiveAt, SomeLiveCovers, live_queries}
 use Rattle.ucq_store.specs.Store.{Store, IsRow, depth_of, IsFinished}
@@ -95,3 +96,28 @@ TakenAreCovered =
     s.cut ≡ None →
     Takes s cores places after →
     All (SomeLiveCovers after.rows) cores
+
+-- ---- names
+
+-- where all names of the query and the rules are held, those of each core of a one-step rewriting are
+abbrev pub DerivedKeepsNames : Type 0
+DerivedKeepsNames =
+    (count : ℕ) (rules : List Rule) (q core : Query) →
+    All (IsHeldRule count) rules →
+    IsHeldQuery count q →
+    IsCoreOfOneStep rules q core →
+    IsHeldQuery count core
+
+-- where all names of the problem are held, those of each row of a cut listing are
+abbrev pub ListingKeepsNames : Type 0
+ListingKeepsNames =
+    (count : ℕ) (problem : Problem) (rows : List Row) →
+    IsHeldProblem count problem →
+    IsCutListing problem rows →
+    (row : ℕ) →
+    row < length rows →
+    IsHeldQuery count (query_at rows row)
+
+-- and those of each live query of a lawful store
+abbrev pub LiveKeepNames : Type 0
+LiveKeepNames = (count : ℕ) (s : Store) → IsHeldProblem count s.problem → IsLawful s → All (IsHeldQuery count) (live_queries s.rows)
