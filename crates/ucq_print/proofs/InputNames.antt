@@ -145,7 +145,7 @@ record IsGoodPlaced (p : Placed) : Type 0 where
   words : IsGoodStatement p.statement
   known : (w : Word) → Contains (spelling p.statement) w → is_undeclared p.before w ≡ false
 
-from_filter_map : {X Y : Type 0} (f : X → Option Y) (xs : List X) (y : Y) → Contains (filter_map f xs) y → (x : X) × Contains xs x × (f x ≡ Some y)
+pub from_filter_map : {X Y : Type 0} (f : X → Option Y) (xs : List X) (y : Y) → Contains (filter_map f xs) y → (x : X) × Contains xs x × (f x ≡ Some y)
 from_filter_map f [] y h = absurd (Contains-empty y h)
 from_filter_map {X} {Y} f (x ∷ xs) y h = go (f x) refl h (from_filter_map f xs y)
   where
@@ -228,7 +228,7 @@ files_good file (t ∷ ts) (parsed statements places ∷ fs) are e p i =
     ]
 
 -- what is meant has no fault, and the texts of all statements
-unless_ok : (o : Option ReadFault) (r : Result Meant ReadFault) (m : Meant) → unless o r ≡ Ok m → (o ≡ None) × (r ≡ Ok m)
+pub unless_ok : (o : Option ReadFault) (r : Result Meant ReadFault) (m : Meant) → unless o r ≡ Ok m → (o ≡ None) × (r ≡ Ok m)
 unless_ok None r m e = (refl, e)
 unless_ok (Some fault) r m e = absurd cc
 

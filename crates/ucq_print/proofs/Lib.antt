@@ -1,6 +1,8 @@
 pub mod Lines
 mod Spelled
 mod ReadBack
-mod Unions
-mod InputNames
-mod Stored
+pub mod Unions
+pub mod InputNames
+pub mod Stored
+pub mod HeldNames
+pub mod InputHeld

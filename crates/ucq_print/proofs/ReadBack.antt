@@ -109,7 +109,7 @@ module _ (names : List (List ℕ)) (readable : AreReadable names) where
   terms_shape : (ts : List Term) (x : List ℕ) → terms_text names ts ++ x ≡ 40 ∷ (inside ts ++ 41 ∷ x)
   terms_shape ts x = append_assoc (40 ∷ inside ts) (41 ∷ []) x
 
-  terms_apart : (ts us : List Term) (x y : List ℕ) → All (IsPrintedTerm names) ts → All (IsPrintedTerm names) us → terms_text names ts ++ x ≡ terms_text names us ++ y → AreOne ts us x y
+  pub terms_apart : (ts us : List Term) (x y : List ℕ) → All (IsPrintedTerm names) ts → All (IsPrintedTerm names) us → terms_text names ts ++ x ≡ terms_text names us ++ y → AreOne ts us x y
   terms_apart ts us x y h k e = inside_apart ts us x y h k (tails (sym (terms_shape ts x) ∙ (e ∙ terms_shape us y)))
 
   -- atoms

@@ -12,7 +12,8 @@ use Rattle.ucq_terms.proofs.Distinct.{IsDistinct, length-distinct_le}
 use Rattle.ucq_terms.proofs.Equality.{IsEquality-nat_eq}
 use Rattle.ucq_terms.proofs.Numbering.{IsDistinct-first_occurrences, Contains-from_first_occurrences}
 use Rattle.ucq_terms.proofs.Orders.{Contains-from_variables, OccursIn-terms_of}
-use Rattle.ucq_print.specs.Laws.{HoldsNames, IsPrintable}
+use Rattle.ucq_chase.specs.Names.{IsHeldQuery}
+use Rattle.ucq_print.specs.Laws.{IsPrintable}
 
 -- different numbers below a limit are no more than the limit
 few_below : (limit : ℕ) (xs : List ℕ) → IsDistinct xs → ((x : ℕ) → Contains xs x → x < limit) → length xs ≤ limit
@@ -34,7 +35,7 @@ ordered_is_variable q v i =
       | inr k ↦ inl (OccursIn-terms_of q.atoms (Variable v) k)
     ]
 
-pub stored_is_printable : (names : List (List ℕ)) (q : Query) → IsStored q → HoldsNames names q → IsPrintable names q
+pub stored_is_printable : (names : List (List ℕ)) (q : Query) → IsStored q → IsHeldQuery (length names) q → IsPrintable names q
 stored_is_printable names q stored held =
     let different : IsDistinct (query_order q) = IsDistinct-first_occurrences nat_eq IsEquality-nat_eq (filter_map variable_of (q.answers ++ terms_of q.atoms)) in
     let few : length (query_order q) ≤ VARIABLES = few_below VARIABLES (query_order q) different (λ v i. stored.variables v (ordered_is_variable q v i)) in

@@ -1,17 +1,22 @@
 -- The finished text is read back.
-use Rattle.std.proofs.Common.{◌≡◌, ℕ, zero, suc, ◌+◌, ◌<◌, ◌≤◌, ◌^◌, Bool, true, false, cond, not, List, [], ◌∷◌, ◌++◌, length, map, refl, sym, ap₂, ◌∙◌, append_assoc, arith, All, nat_eq}
+use Rattle.std.proofs.Common.{◌≡◌, ℕ, zero, suc, ◌+◌, ◌<◌, ◌≤◌, ◌^◌, Bool, true, false, cond, not, List, [], ◌∷◌, ◌++◌, length, map, refl, sym, ap, ap₂, ◌∙◌, append_assoc, arith, All, nat_eq, flat_map}
 use Rattle.std.specs.Prelude.{codes, decimal}
 use Rattle.std.specs.List.{position_or_len}
-use Rattle.std.proofs.lemmas.List.{append_cancel_left}
+use Rattle.std.proofs.lemmas.List.{append_cancel_left, append-nil}
+use Rattle.std.proofs.lemmas.List.Concat.{flat_map-append}
 use Rattle.std.proofs.lemmas.List.Elements.{All-map}
 use Rattle.ucq_terms.specs.declared.Term.{Term}
 use Rattle.ucq_terms.specs.declared.Term.TheVariants.{Constant, Variable}
 use Rattle.ucq_terms.specs.Syntax.{Atom, Query}
 use Rattle.ucq_terms.specs.Numbering.{numbered_term, numbered_terms, numbered_atom, query_order, numbered_query}
-use Rattle.ucq_print.specs.Texts.{line_feed, query_text, query_line, lines_text, count_line, finished_text}
-use Rattle.ucq_print.specs.Laws.{IsHeldTerm, IsHeldAtom, IsPrintable, AreReadable, ArePrintable}
-use Rattle.ucq_print.proofs.Spelled.{decimals_apart, tails}
-use Rattle.ucq_print.proofs.ReadBack.{IsPrintedTerm, IsPrintedAtom, IsPrinted, numbered_apart}
+use Rattle.ucq_terms.specs.Names.{name_text}
+use Rattle.ucq_terms.specs.Equality.{number_in}
+use Rattle.ucq_eval.specs.Tuples.{tuple_text}
+use Rattle.ucq_print.specs.Texts.{line_feed, term_text, terms_text, query_text, query_line, lines_text, count_line, finished_lines, finished_text, tuple_line, answer_lines, answered_text}
+use Rattle.ucq_chase.specs.Names.{IsHeldTerm, IsHeldAtom}
+use Rattle.ucq_print.specs.Laws.{IsPrintable, AreReadable, ArePrintable, ArePrintableTuples}
+use Rattle.ucq_print.proofs.Spelled.{AreOne, decimals_apart, tails}
+use Rattle.ucq_print.proofs.ReadBack.{IsPrintedTerm, IsPrintedAtom, IsPrinted, numbered_apart, terms_apart}
 
 -- a place is at most the length
 position-le : (p : ℕ → Bool) (xs : List ℕ) → position_or_len p xs ≤ length xs
@@ -23,14 +28,14 @@ position-le p (x ∷ xs) = go (position-le p xs) (p x)
     go rest false = omega (arith, rest)
 
 -- a numbered query is printed whole
-printed_term : (names : List (List ℕ)) (order : List ℕ) → length order < 2 ^ 64 → (t : Term) → IsHeldTerm names t → IsPrintedTerm names (numbered_term order t)
+printed_term : (names : List (List ℕ)) (order : List ℕ) → length order < 2 ^ 64 → (t : Term) → IsHeldTerm (length names) t → IsPrintedTerm names (numbered_term order t)
 printed_term names order small (Constant c) h = h
 printed_term names order small (Variable v) h = omega (arith, small, position-le (nat_eq v) order)
 
-printed_terms : (names : List (List ℕ)) (order : List ℕ) → length order < 2 ^ 64 → (ts : List Term) → All (IsHeldTerm names) ts → All (IsPrintedTerm names) (numbered_terms order ts)
+printed_terms : (names : List (List ℕ)) (order : List ℕ) → length order < 2 ^ 64 → (ts : List Term) → All (IsHeldTerm (length names)) ts → All (IsPrintedTerm names) (numbered_terms order ts)
 printed_terms names order small ts h = All-map (IsPrintedTerm names) (numbered_term order) ts (λ k d l. printed_term names order small _ (h k d l))
 
-printed_atom : (names : List (List ℕ)) (order : List ℕ) → length order < 2 ^ 64 → (a : Atom) → IsHeldAtom names a → IsPrintedAtom names (numbered_atom order a)
+printed_atom : (names : List (List ℕ)) (order : List ℕ) → length order < 2 ^ 64 → (a : Atom) → IsHeldAtom (length names) a → IsPrintedAtom names (numbered_atom order a)
 printed_atom names order small a h = record { name = h.name; terms = printed_terms names order small a.terms h.terms }
 
 pub printed_query : (names : List (List ℕ)) (q : Query) → IsPrintable names q → IsPrinted names (numbered_query q)
@@ -46,22 +51,96 @@ module _ (names : List (List ℕ)) (readable : AreReadable names) where
   line_shape : (q : Query) (rest : List ℕ) → query_line names q ++ rest ≡ query_text names q ++ 10 ∷ rest
   line_shape q rest = append_assoc (query_text names q) line_feed rest
 
-  lines_apart : (one two : List Query) → All (IsPrintable names) one → All (IsPrintable names) two → lines one ≡ lines two → map numbered_query one ≡ map numbered_query two
-  lines_apart [] [] h k e = refl
-  lines_apart [] (q ∷ qs) h k e = absurd cc
-  lines_apart (p ∷ ps) [] h k e = absurd cc
-  lines_apart (p ∷ ps) (q ∷ qs) h k e =
-      let whole : query_text names p ++ 10 ∷ lines ps ≡ query_text names q ++ 10 ∷ lines qs = sym (line_shape p (lines ps)) ∙ (e ∙ line_shape q (lines qs)) in
-      let one = numbered_apart names readable (numbered_query p) (numbered_query q) (10 ∷ lines ps) (10 ∷ lines qs) (printed_query names p (h zero p (omega arith))) (printed_query names q (k zero q (omega arith))) whole in
-      let others = lines_apart ps qs (λ i d l. h (suc i) d (omega (arith, l))) (λ i d l. k (suc i) d (omega (arith, l))) (tails one.rest) in
-      ap₂ (λ (a : Query) (b : List Query). a ∷ b) one.front others
+  lines_apart : (one two : List Query) (x y : List ℕ) → All (IsPrintable names) one → All (IsPrintable names) two → length one ≡ length two → lines one ++ x ≡ lines two ++ y →
+      AreOne (map numbered_query one) (map numbered_query two) x y
+  lines_apart [] [] x y h k l e = record { front = refl; rest = e }
+  lines_apart [] (q ∷ qs) x y h k l e = absurd (omega arith)
+  lines_apart (p ∷ ps) [] x y h k l e = absurd (omega arith)
+  lines_apart (p ∷ ps) (q ∷ qs) x y h k l e =
+      let whole : query_text names p ++ 10 ∷ (lines ps ++ x) ≡ query_text names q ++ 10 ∷ (lines qs ++ y) =
+      sym (line_shape p (lines ps ++ x)) ∙ (sym (append_assoc (query_line names p) (lines ps) x) ∙ (e ∙ (append_assoc (query_line names q) (lines qs) y ∙ line_shape q (lines qs ++ y)))) in
+      let one = numbered_apart names readable (numbered_query p) (numbered_query q) (10 ∷ (lines ps ++ x)) (10 ∷ (lines qs ++ y)) (printed_query names p (h zero p (omega arith))) (printed_query names q (k zero q (omega arith))) whole in
+      let others = lines_apart ps qs x y (λ i d l. h (suc i) d (omega (arith, l))) (λ i d l. k (suc i) d (omega (arith, l))) (omega (arith, l)) (tails one.rest) in
+      record { front = ap₂ (λ (a : Query) (b : List Query). a ∷ b) one.front others.front; rest = others.rest }
 
-  count_shape : (n : ℕ) (rest : List ℕ) → count_line n ++ rest ≡ codes "% queries " ++ (decimal n ++ 10 ∷ rest)
-  count_shape n rest = append_assoc (codes "% queries " ++ decimal n) line_feed rest ∙ append_assoc (codes "% queries ") (decimal n) (10 ∷ rest)
+  finished_shape : (union : List Query) (x : List ℕ) → finished_text names union ++ x ≡ codes "% finished\n" ++ (codes "% queries " ++ (decimal (length union) ++ 10 ∷ (lines union ++ x)))
+  finished_shape union x =
+      append_assoc (codes "% finished\n") (count_line (length union) ++ lines union) x ∙
+      ap (λ l. codes "% finished\n" ++ l) (append_assoc (count_line (length union)) (lines union) x ∙ count_shape (length union) (lines union ++ x))
+    where
+      count_shape : (n : ℕ) (rest : List ℕ) → count_line n ++ rest ≡ codes "% queries " ++ (decimal n ++ 10 ∷ rest)
+      count_shape n rest = append_assoc (codes "% queries " ++ decimal n) line_feed rest ∙ append_assoc (codes "% queries ") (decimal n) (10 ∷ rest)
+
+  -- a union by a text that begins with its finished text
+  pub beginning_apart : (one two : List Query) (x y : List ℕ) → ArePrintable names one → ArePrintable names two → finished_text names one ++ x ≡ finished_text names two ++ y →
+      AreOne (map numbered_query one) (map numbered_query two) x y
+  beginning_apart one two x y h k e =
+      let whole = append_cancel_left (codes "% finished\n") (codes "% queries " ++ (decimal (length one) ++ 10 ∷ (lines one ++ x))) (codes "% queries " ++ (decimal (length two) ++ 10 ∷ (lines two ++ y))) (sym (finished_shape one x) ∙ (e ∙ finished_shape two y)) in
+      let counted = append_cancel_left (codes "% queries ") (decimal (length one) ++ 10 ∷ (lines one ++ x)) (decimal (length two) ++ 10 ∷ (lines two ++ y)) whole in
+      let numbers = decimals_apart (length one) (length two) 10 10 (lines one ++ x) (lines two ++ y) h.few k.few refl refl counted in
+      lines_apart one two x y h.each k.each numbers.front (tails numbers.rest)
 
   pub finished_tells : (one two : List Query) → ArePrintable names one → ArePrintable names two → finished_text names one ≡ finished_text names two → map numbered_query one ≡ map numbered_query two
-  finished_tells one two h k e =
-      let counted : count_line (length one) ++ lines one ≡ count_line (length two) ++ lines two = append_cancel_left (codes "% finished\n") (count_line (length one) ++ lines one) (count_line (length two) ++ lines two) e in
-      let numbers : decimal (length one) ++ 10 ∷ lines one ≡ decimal (length two) ++ 10 ∷ lines two =
-      append_cancel_left (codes "% queries ") (decimal (length one) ++ 10 ∷ lines one) (decimal (length two) ++ 10 ∷ lines two) (sym (count_shape (length one) (lines one)) ∙ (counted ∙ count_shape (length two) (lines two))) in
-      lines_apart one two h.each k.each (tails (decimals_apart (length one) (length two) 10 10 (lines one) (lines two) h.few k.few refl refl numbers).rest)
+  finished_tells one two h k e = (beginning_apart one two [] [] h k (append-nil (finished_text names one) ∙ (e ∙ sym (append-nil (finished_text names two))))).front
+
+  -- ---- answers
+
+  more_names : (tuple : List ℕ) → flat_map (λ c. codes "," ++ name_text names c) tuple ≡ flat_map (λ t. codes "," ++ term_text names t) (map Constant tuple)
+  more_names [] = refl
+  more_names (c ∷ cs) = ap (λ l. (codes "," ++ name_text names c) ++ l) (more_names cs)
+
+  -- a tuple is printed as the list of its constants
+  tuple_is : (tuple : List ℕ) → tuple_text names tuple ≡ terms_text names (map Constant tuple)
+  tuple_is [] = refl
+  tuple_is (c ∷ cs) = ap (λ l. (codes "(" ++ (name_text names c ++ l)) ++ codes ")") (more_names cs)
+
+  constants_printed : (tuple : List ℕ) → All (λ c. c < length names) tuple → All (IsPrintedTerm names) (map Constant tuple)
+  constants_printed tuple h = All-map (IsPrintedTerm names) Constant tuple (λ k d l. h k d l)
+
+  constants_back : (tuple : List ℕ) → map number_in (map Constant tuple) ≡ tuple
+  constants_back [] = refl
+  constants_back (c ∷ cs) = ap (λ l. c ∷ l) (constants_back cs)
+
+  tuple_apart : (t u : List ℕ) (x y : List ℕ) → All (λ c. c < length names) t → All (λ c. c < length names) u → tuple_text names t ++ x ≡ tuple_text names u ++ y → AreOne t u x y
+  tuple_apart t u x y h k e =
+      let whole : terms_text names (map Constant t) ++ x ≡ terms_text names (map Constant u) ++ y = ap (λ l. l ++ x) (sym (tuple_is t)) ∙ (e ∙ ap (λ l. l ++ y) (tuple_is u)) in
+      let one = terms_apart names readable (map Constant t) (map Constant u) x y (constants_printed t h) (constants_printed u k) whole in
+      record { front = sym (constants_back t) ∙ (ap (map number_in) one.front ∙ constants_back u); rest = one.rest }
+
+  abbrev tuple_lines : List (List ℕ) → List ℕ
+  tuple_lines tuples = lines_text (map (tuple_line names) tuples)
+
+  tuple_shape : (t rest : List ℕ) → tuple_line names t ++ rest ≡ codes "% " ++ (tuple_text names t ++ 10 ∷ rest)
+  tuple_shape t rest = append_assoc (codes "% " ++ tuple_text names t) line_feed rest ∙ append_assoc (codes "% ") (tuple_text names t) (10 ∷ rest)
+
+  tuples_apart : (one two : List (List ℕ)) → All (All (λ c. c < length names)) one → All (All (λ c. c < length names)) two → length one ≡ length two → tuple_lines one ≡ tuple_lines two → one ≡ two
+  tuples_apart [] [] h k l e = refl
+  tuples_apart [] (u ∷ us) h k l e = absurd (omega arith)
+  tuples_apart (t ∷ ts) [] h k l e = absurd (omega arith)
+  tuples_apart (t ∷ ts) (u ∷ us) h k l e =
+      let whole = append_cancel_left (codes "% ") (tuple_text names t ++ 10 ∷ tuple_lines ts) (tuple_text names u ++ 10 ∷ tuple_lines us) (sym (tuple_shape t (tuple_lines ts)) ∙ (e ∙ tuple_shape u (tuple_lines us))) in
+      let one = tuple_apart t u (10 ∷ tuple_lines ts) (10 ∷ tuple_lines us) (h zero t (omega arith)) (k zero u (omega arith)) whole in
+      let others = tuples_apart ts us (λ i d l. h (suc i) d (omega (arith, l))) (λ i d l. k (suc i) d (omega (arith, l))) (omega (arith, l)) (tails one.rest) in
+      ap₂ (λ (a : List ℕ) (b : List (List ℕ)). a ∷ b) one.front others
+
+  answers_shape : (tuples : List (List ℕ)) → lines_text (answer_lines names tuples) ≡ codes "% answers " ++ (decimal (length tuples) ++ 10 ∷ tuple_lines tuples)
+  answers_shape tuples =
+      append_assoc (codes "% answers " ++ decimal (length tuples)) line_feed (tuple_lines tuples) ∙ append_assoc (codes "% answers ") (decimal (length tuples)) (10 ∷ tuple_lines tuples)
+
+  answers_apart : (one two : List (List ℕ)) → ArePrintableTuples names one → ArePrintableTuples names two → lines_text (answer_lines names one) ≡ lines_text (answer_lines names two) → one ≡ two
+  answers_apart one two h k e =
+      let counted = append_cancel_left (codes "% answers ") (decimal (length one) ++ 10 ∷ tuple_lines one) (decimal (length two) ++ 10 ∷ tuple_lines two) (sym (answers_shape one) ∙ (e ∙ answers_shape two)) in
+      let numbers = decimals_apart (length one) (length two) 10 10 (tuple_lines one) (tuple_lines two) h.few k.few refl refl counted in
+      tuples_apart one two h.held k.held numbers.front (tails numbers.rest)
+
+  -- a text with answers begins with the finished text
+  pub answered_shape : (union : List Query) (tuples : List (List ℕ)) → answered_text names union tuples ≡ finished_text names union ++ lines_text (answer_lines names tuples)
+  answered_shape union tuples = flat_map-append (λ line. line) (finished_lines names union) (answer_lines names tuples)
+
+  pub answered_tells : (one two : List Query) (answers_one answers_two : List (List ℕ)) → ArePrintable names one → ArePrintable names two → ArePrintableTuples names answers_one →
+      ArePrintableTuples names answers_two → answered_text names one answers_one ≡ answered_text names two answers_two →
+      (map numbered_query one ≡ map numbered_query two) × (answers_one ≡ answers_two)
+  answered_tells one two answers_one answers_two h k i j e =
+      let begins = beginning_apart one two (lines_text (answer_lines names answers_one)) (lines_text (answer_lines names answers_two)) h k
+      (sym (answered_shape one answers_one) ∙ (e ∙ answered_shape two answers_two)) in
+      (begins.front, answers_apart answers_one answers_two i j begins.rest)

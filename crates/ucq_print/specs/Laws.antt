@@ -1,14 +1,14 @@
--- What the finished text tells of its union.
-use Rattle.std.specs.Prelude.{◌≡◌, ◌≢◌, ◌<◌, ◌^◌, ◌⊎◌, ℕ, List, length, map, All, AllPairs}
-use Rattle.ucq_terms.specs.declared.Term.{Term}
-use Rattle.ucq_terms.specs.declared.Term.TheVariants.{Constant, Variable}
-use Rattle.ucq_terms.specs.Syntax.{Atom, Query}
+-- What a printed text tells of its union.
+use Rattle.std.specs.Prelude.{◌≡◌, ◌≢◌, ◌<◌, ◌^◌, ◌⊎◌, ◌++◌, ℕ, List, length, map, All, AllPairs}
+use Rattle.ucq_terms.specs.Syntax.{Query}
 use Rattle.ucq_terms.specs.Query.{IsStored}
 use Rattle.ucq_terms.specs.Numbering.{query_order, numbered_query}
 use Rattle.ucq_lexer.specs.declared.Kind.TheVariants.{Identifier, Iri, Integer, Text}
 use Rattle.ucq_lexer.specs.Spelling.{IsSpelled}
-use Rattle.ucq_reader.specs.Input.{InputValue, IsInput}
-use Rattle.ucq_print.specs.Texts.{finished_text}
+use Rattle.ucq_chase.specs.Names.{AreHeldAtoms, IsHeldQuery, IsHeldProblem}
+use Rattle.ucq_reader.specs.Input.{InputValue, IsInput, IsNumbered}
+use Rattle.ucq_reader.specs.Made.{made}
+use Rattle.ucq_print.specs.Texts.{answered_text, finished_text}
 
 -- the spelling of an Identifier, an Iri, an Integer or a Text
 abbrev pub IsNameText : List ℕ → Type 0
@@ -19,24 +19,9 @@ pub record AreReadable (names : List (List ℕ)) : Type 0 where
   pub different : AllPairs (λ a b. a ≢ b) names
   pub spelled : All IsNameText names
 
--- a constant has a name
-abbrev pub IsHeldTerm : List (List ℕ) → Term → Type 0
-IsHeldTerm names (Constant c) = c < length names
-IsHeldTerm names (Variable v) = Unit {0}
-
--- the predicate and each constant have names
-pub record IsHeldAtom (names : List (List ℕ)) (a : Atom) : Type 0 where
-  pub name : a.name < length names
-  pub terms : All (IsHeldTerm names) a.terms
-
--- each predicate and constant of the query has a name
-pub record HoldsNames (names : List (List ℕ)) (q : Query) : Type 0 where
-  pub answers : All (IsHeldTerm names) q.answers
-  pub atoms : All (IsHeldAtom names) q.atoms
-
--- and its variables are fewer than 2^64
+-- each predicate and constant of the query has a name, and its variables are fewer than 2^64
 pub record IsPrintable (names : List (List ℕ)) (q : Query) : Type 0 where
-  pub held : HoldsNames names q
+  pub held : IsHeldQuery (length names) q
   pub variables : length (query_order q) < 2 ^ 64
 
 -- each query is so, and there are fewer than 2^64 of them
@@ -54,10 +39,50 @@ FinishedTextTellsUnion =
     finished_text names one ≡ finished_text names two →
     map numbered_query one ≡ map numbered_query two
 
+-- two texts that begin with the finished texts of such unions are equal only where the unions are one, and the rest is
+abbrev pub BeginningTellsUnion : Type 0
+BeginningTellsUnion =
+    (names : List (List ℕ)) (one two : List Query) (rest_one rest_two : List ℕ) →
+    AreReadable names →
+    ArePrintable names one →
+    ArePrintable names two →
+    finished_text names one ++ rest_one ≡ finished_text names two ++ rest_two →
+    (map numbered_query one ≡ map numbered_query two) × (rest_one ≡ rest_two)
+
+-- each constant of each tuple has a name, and there are fewer than 2^64 tuples
+pub record ArePrintableTuples (names : List (List ℕ)) (tuples : List (List ℕ)) : Type 0 where
+  pub held : All (All (λ c. c < length names)) tuples
+  pub few : length tuples < 2 ^ 64
+
+-- two unions over readable names that have, each with its answers, one text are one list of queries so, and the answers are one list
+abbrev pub AnsweredTextTellsUnion : Type 0
+AnsweredTextTellsUnion =
+    (names : List (List ℕ)) (one two : List Query) (answers_one answers_two : List (List ℕ)) →
+    AreReadable names →
+    ArePrintable names one →
+    ArePrintable names two →
+    ArePrintableTuples names answers_one →
+    ArePrintableTuples names answers_two →
+    answered_text names one answers_one ≡ answered_text names two answers_two →
+    (map numbered_query one ≡ map numbered_query two) × (answers_one ≡ answers_two)
+
 -- the names of what files stand for are readable
 abbrev pub InputNamesAreReadable : Type 0
 InputNamesAreReadable = (files : List (List ℕ)) (input : InputValue) → IsInput files input → AreReadable input.names
 
 -- a stored query is printable where its predicates and constants have names
 abbrev pub StoredArePrintable : Type 0
-StoredArePrintable = (names : List (List ℕ)) (q : Query) → IsStored q → HoldsNames names q → IsPrintable names q
+StoredArePrintable = (names : List (List ℕ)) (q : Query) → IsStored q → IsHeldQuery (length names) q → IsPrintable names q
+
+-- each predicate and constant of the rules, of the query and of the facts has a name
+pub record IsHeldInput (input : InputValue) : Type 0 where
+  pub problem : IsHeldProblem (length input.names) (record { rules = input.rules; query = input.query })
+  pub facts : AreHeldAtoms (length input.names) input.facts
+
+-- the input that files stand for is so
+abbrev pub InputNamesAreHeld : Type 0
+InputNamesAreHeld = (files : List (List ℕ)) (input : InputValue) → IsInput files input → IsHeldInput input
+
+-- and the input that is made
+abbrev pub MadeNamesAreHeld : Type 0
+MadeNamesAreHeld = (number : ℕ) (input : InputValue) → IsNumbered (made number) input → IsHeldInput input
