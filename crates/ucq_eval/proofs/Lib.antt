@@ -7,3 +7,4 @@ pub mod Sorting
 pub mod Members
 pub mod Unique
 pub mod Printing
+pub mod Together

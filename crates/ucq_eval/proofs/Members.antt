@@ -1,5 +1,5 @@
 -- The tuples that the members of a union find, one member after another.
-use Rattle.std.proofs.Common.{◌≡◌, ◌<◌, ◌+◌, ◌⊎◌, inl, inr, sym, subst, arith, List, [], ◌∷◌, ◌++◌, length, ℕ, get_or, take, map, Any, Contains, Some}
+use Rattle.std.proofs.Common.{◌≡◌, ◌<◌, ◌+◌, inl, inr, sym, subst, List, [], ◌∷◌, ◌++◌, length, ℕ, get_or, take, map, Contains, Some}
 use Rattle.std.specs.Prelude.{slice_get}
 use Rattle.std.proofs.lemmas.List.{take_more}
 use Rattle.std.proofs.lemmas.List.Elements.{Contains-append_left, Contains-append_right, Contains-append_cases}

@@ -1,5 +1,5 @@
 -- Tuples that a set holds, each in a key.
-use Rattle.std.proofs.Common.{◌≡◌, ℕ, Bool, true, false, cond, nat_eq, List, [], ◌∷◌, ◌++◌, map, Contains, refl, sym, ap, ◌∙◌, subst, inl, inr}
+use Rattle.std.proofs.Common.{◌≡◌, ℕ, Bool, true, false, cond, nat_eq, List, [], ◌∷◌, ◌++◌, map, fold, Contains, refl, sym, ap, ◌∙◌, subst, inl, inr}
 use Rattle.std.specs.List.{list_any}
 use Rattle.std.specs.Cmp.Lexicographic.{pointwise, pointwise_decides}
 use Rattle.std.proofs.lemmas.Bool.Decides.{Decides-eqb}
@@ -7,7 +7,9 @@ use Rattle.std.proofs.lemmas.List.{map-append}
 use Rattle.std.proofs.lemmas.List.Elements.{Contains-append_left, Contains-push, Contains-push_cases}
 use Rattle.ucq_terms.proofs.Equality.{IsEquality}
 use Rattle.ucq_terms.proofs.Numbering.{list_any-map, Contains-from_any, any_from_contains}
+use Rattle.ucq_terms.proofs.Lists.{Contains-cons_cases, Contains-empty, Contains-first, Contains-rest}
 use Rattle.ucq_eval.specs.Join.{IsGrownBy}
+use Rattle.ucq_eval.proofs.Grown.{IsGrownBy-both, IsGrownBy-nothing}
 
 IsEquality-tuples : IsEquality (pointwise nat_eq)
 IsEquality-tuples = record { decides = pointwise_decides Decides-eqb }
@@ -42,3 +44,17 @@ module _ {V : Type 0} (f : V → List ℕ) (keys : List V) where
               ],
             );
           })
+
+module _ {V : Type 0} (f : V → List ℕ) where
+  -- keys that are inserted one after another add their tuples
+  pub IsGrownBy-all_inserted : (keys more : List V) →
+      IsGrownBy (Contains (map f more)) (map f keys) (map f (fold (λ ks k. cond (list_any (λ v. pointwise nat_eq (f k) (f v)) ks) ks (ks ++ k ∷ [])) keys more))
+  IsGrownBy-all_inserted keys [] = IsGrownBy-nothing (Contains []) (map f keys) (λ t i. absurd (Contains-empty t i))
+  IsGrownBy-all_inserted keys (k ∷ more) =
+      let next : List V = cond (list_any (λ v. pointwise nat_eq (f k) (f v)) keys) keys (keys ++ k ∷ []) in
+      IsGrownBy-both (λ t. t ≡ f k) (Contains (map f more)) (Contains (f k ∷ map f more)) (map f keys) (map f next) _
+      (λ t i. elim (Contains-cons_cases (f k) (map f more) t i) [ inl e ↦ inl (sym e) | inr j ↦ inr j ])
+      (λ t e. subst (λ (x : List ℕ). Contains (f k ∷ map f more) x) (sym e) (Contains-first (f k) (map f more)))
+      (λ t j. Contains-rest (f k) (map f more) t j)
+      (IsGrownBy-inserted f keys k (f k) refl)
+      (IsGrownBy-all_inserted next more)

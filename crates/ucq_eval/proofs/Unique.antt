@@ -1,16 +1,14 @@
 -- Strictly sorted lists with the same elements are one list, and what that says of answers.
-use Rattle.std.proofs.Common.{◌≡◌, ◌↔◌, refl, sym, ◌∙◌, ap, ap₂, subst, inl, inr, Bool, true, false, true≢false, List, [], ◌∷◌, ℕ, map, Any, Contains}
+use Rattle.std.proofs.Common.{◌≡◌, ◌↔◌, refl, sym, ◌∙◌, ap, ap₂, subst, inl, inr, true≢false, List, [], ◌∷◌, ℕ, Contains}
 use Rattle.std.specs.List.Sorted.{IsStrictlySortedBy}
 use Rattle.std.specs.Ordering.{is_lt}
 use Rattle.std.specs.declared.cmp.Ordering.{Ordering}
-use Rattle.std.specs.declared.cmp.Ordering.TheVariants.{Less, Equal, Greater}
+use Rattle.std.specs.declared.cmp.Ordering.TheVariants.{Less}
 use Rattle.std.specs.Cmp.{IsTotalOrder}
 use Rattle.std.proofs.lemmas.Cmp.{tied_itself}
 use Rattle.std.proofs.lemmas.List.Elements.{All-contains}
 use Rattle.std.proofs.lemmas.Map.Keys.{sorted_tail}
 use Rattle.std.proofs.lemmas.Map.Views.{All-after_first}
-use Rattle.ucq_terms.specs.declared.Term.TheVariants.{Constant}
-use Rattle.ucq_terms.specs.declared.Term.{Term}
 use Rattle.ucq_terms.specs.Syntax.{Atom, Query, Problem}
 use Rattle.ucq_terms.specs.Chase.{IsChaseAnswer}
 use Rattle.ucq_terms.specs.Homomorphism.{MapsInto}

@@ -5,6 +5,11 @@ use Rattle.ucq_eval.specs.declared.order.Printed.{Printed}
 use Rattle.std.specs.List.Sorted.{IsStrictlySortedBy}
 use Rattle.ucq_eval.specs.Tuples.{tuple_cmp, tuple_text}
 
+-- this tuple beside its text
+pub record IsPrinted (names : List (List ℕ)) (numbers : Vec ℕ) (p : Printed) : Type 0 where
+  pub names_are : p.names ≡ numbers
+  pub text_is : p.text.items ≡ tuple_text names p.names.items
+
 -- these tuples, each beside its text
 pub record ArePrinted (names : List (List ℕ)) (tuples : List (List ℕ)) (all : List Printed) : Type 0 where
   pub names_are : map (λ (p : Printed). p.names.items) all ≡ tuples

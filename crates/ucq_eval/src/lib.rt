@@ -7,9 +7,11 @@ mod evaluation;
 mod join;
 pub mod laws;
 mod order;
+mod split;
 #[cfg(test)]
 mod tests;
 mod texts;
 
 pub use evaluation::answers;
+pub use split::answers_split;
 pub use texts::{Tuple, tuple_text};

@@ -1,10 +1,12 @@
 //! Tuples in the order in which they are printed.
 ghost use Rattle.std.specs.Prelude.{◌≡◌, ◌≢◌, AllPairs, map, IfOk};
-ghost use Rattle.ucq_eval.specs.Order.{AreInOrder, ArePrinted};
+ghost use Rattle.ucq_eval.specs.Order.{AreInOrder, ArePrinted, IsPrinted};
 
 use crate::texts::{Tuple, numbers_text};
 use indexmap::IndexSet;
+use rayon::prelude::*;
 use std::alloc::Global;
+use std::thread::Threads;
 use ucq_terms::{Names, NoMemory};
 
 /// A tuple with its text, which stands first and so decides the order.
@@ -21,6 +23,17 @@ fn differ(found: &IndexSet<Vec<u32>>)
     let _ = found.len();
 }
 
+/// The tuple with its text.
+fn with_text(alloc: Global, names: &Names, numbers: Vec<u32>) -> Result<Printed, NoMemory>
+    ensures { IfOk result (IsPrinted names.now numbers) }
+{
+    let text = numbers_text(alloc, names, numbers.as_slice())?;
+    Ok(Printed {
+        text,
+        names: numbers,
+    })
+}
+
 /// The tuples with their texts.
 fn with_texts(
     alloc: Global,
@@ -31,13 +44,29 @@ fn with_texts(
 {
     let mut all = Vec::new(alloc);
     for numbers in found {
-        let text = numbers_text(alloc, names, numbers.as_slice())?;
-        all.push(Printed {
-            text,
-            names: numbers,
-        })?;
+        all.push(with_text(alloc, names, numbers)?)?;
     }
     Ok(all)
+}
+
+/// The same by several threads, where there are many tuples.
+fn with_texts_split<R: Threads + Sync>(
+    rt: &R,
+    alloc: Global,
+    names: &Names,
+    found: IndexSet<Vec<u32>>,
+) -> Result<Vec<Printed>, NoMemory>
+    ensures { IfOk result (λ all. ArePrinted names.now (map (λ t. t.items) found.keys) all.items) }
+{
+    let tuples: Vec<Vec<u32>> = found.into_iter().collect(alloc)?;
+    tuples
+        .into_par_iter()
+        .map(
+            |numbers: Vec<u32>| -> Result<Printed, NoMemory>
+                ensures { IfOk result (IsPrinted names.entry.now numbers) }
+            { with_text(alloc, names, numbers) },
+        )
+        .collect::<Result<Vec<Printed>, NoMemory>>(rt, alloc)?
 }
 
 /// The tuples without their texts.
@@ -62,5 +91,20 @@ pub(crate) fn in_order(
     differ(&found);
     let mut all = with_texts(alloc, names, found)?;
     all.sort_unstable();
+    tuples_of(alloc, all)
+}
+
+/// The same by several threads, where there are many tuples.
+pub(crate) fn in_order_split<R: Threads + Sync>(
+    rt: &R,
+    alloc: Global,
+    names: &Names,
+    found: IndexSet<Vec<u32>>,
+) -> Result<Vec<Tuple>, NoMemory>
+    ensures { IfOk result (λ tuples. AreInOrder names.now (map (λ t. t.items) found.keys) tuples.items) }
+{
+    differ(&found);
+    let mut all = with_texts_split(rt, alloc, names, found)?;
+    par_sort_unstable(rt, all.as_mut_slice());
     tuples_of(alloc, all)
 }

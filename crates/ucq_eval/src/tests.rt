@@ -2,7 +2,7 @@
 ghost use Rattle.std.specs.Prelude.{◌≡◌, length, IfOk, vec_len};
 
 use crate::join::collect;
-use crate::{Tuple, answers, tuple_text};
+use crate::{Tuple, answers, answers_split, tuple_text};
 use indexmap::IndexSet;
 use std::alloc::{AllocError, Global};
 use std::process::Abort;
@@ -150,12 +150,13 @@ fn three_names(rt: &impl Abort, alloc: Global) -> Result<Names, Fail> {
     Ok(names)
 }
 
-/// The union of these two queries.
-fn union(rt: &impl Abort, alloc: Global, one: &str, two: &str) -> Result<Union, Fail> {
+/// The union of the queries of these texts.
+fn union(rt: &impl Abort, alloc: Global, queries: &[&str]) -> Result<Union, Fail> {
     let mut members = Vec::new(alloc);
-    members.push(query(rt, alloc, one)?)?;
-    members.push(query(rt, alloc, two)?)?;
-    assert!(rt; members.len() == 2);
+    for text in queries {
+        members.push(query(rt, alloc, text)?)?;
+    }
+    assert!(rt; members.len() < 1_000);
     Ok(Union::new(members))
 }
 
@@ -173,10 +174,27 @@ fn answers_stand_in_byte_order_of_their_texts(rt: HostRuntime) -> Result<(), Fai
     let alloc = rt.alloc();
     let names = three_names(&rt, alloc)?;
     let held = facts(&rt, alloc, "p\u{0} p\u{1} q\u{2} q\u{1} pU")?;
-    let asked = union(&rt, alloc, "?X pX", "?X qX")?;
+    let asked = union(&rt, alloc, ["?X pX", "?X qX"].as_slice())?;
     let tuples = answers(alloc, &asked, &names, &held)?;
     let printed = texts(alloc, &names, tuples.as_slice())?;
     assert_eq!(rt; printed.as_slice(), b"(a)(a,b)(b)".as_slice());
+    Ok(())
+}
+
+#[test]
+fn several_threads_find_the_same_answers(rt: HostRuntime) -> Result<(), Fail> {
+    let alloc = rt.alloc();
+    let names = three_names(&rt, alloc)?;
+    let held = facts(&rt, alloc, "p\u{0} p\u{1} q\u{2} q\u{1} pU")?;
+    let asked = union(&rt, alloc, ["?X pX", "?X qX", "?X pX qX"].as_slice())?;
+    let split = answers_split(&rt, alloc, &asked, &names, &held)?;
+    let printed = texts(alloc, &names, split.as_slice())?;
+    assert_eq!(rt; printed.as_slice(), b"(a)(a,b)(b)".as_slice());
+    let alone = answers(alloc, &asked, &names, &held)?;
+    assert_eq!(rt;
+        printed.as_slice(),
+        texts(alloc, &names, alone.as_slice())?.as_slice()
+    );
     Ok(())
 }
 
