@@ -1,7 +1,13 @@
 -- What words ask for is within its ranges.
 use Rattle.std.proofs.Common.{◌≤◌, ℕ, List, arith}
 use Rattle.std.specs.Prelude.{Option, Some, None}
-use Rattle.ucq_words.specs.Settings.{IsNumber, SettingsValue, StandFor}
+use Rattle.ucq_reader.specs.Input.{InputValue}
+use Rattle.ucq_reader.specs.Made.{made}
+use Rattle.ucq_print.specs.Laws.{IsHeldInput}
+use Rattle.ucq_print.proofs.HeldNames.{made_has_texts, numbered_is_held}
+use Rattle.ucq_print.proofs.InputHeld.{input_is_held}
+use Rattle.ucq_words.specs.Settings.{IsNumber, JobValue, files, make, SettingsValue, StandFor}
+use Rattle.ucq_run.specs.Inputs.{IsInputOf}
 
 -- a number within its range, which is that of the default too
 pub record IsBetween (least most number : ℕ) : Type 0 where
@@ -17,3 +23,8 @@ budget_within words v stand = between 1 65536 4096 _ v.budget (omega arith) (ome
 
 pub workers_within : (words : List (List ℕ)) (v : SettingsValue) → StandFor words v → IsBetween 1 64 v.workers
 workers_within words v stand = between 1 64 1 _ v.workers (omega arith) (omega arith) stand.settings.workers
+
+-- each predicate and constant of the input that is asked has a name
+pub asked_is_held : (held : List ℕ → Option (List ℕ)) (job : JobValue) (input : InputValue) → IsInputOf held job input → IsHeldInput input
+asked_is_held held (files names) input has = input_is_held has.texts input has.stands_for
+asked_is_held held (make number) input has = numbered_is_held (made number) input (made_has_texts number) has

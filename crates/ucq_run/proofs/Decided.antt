@@ -104,7 +104,7 @@ module _ (one : OneSettings) where
       all_told call.held told.names xs texts (subst (λ (ns : List (List ℕ)). AllZip (λ (name text : List ℕ). IfSome (call.held name) (λ file. text ≡ file)) ns xs) same read.told) told.held
 
   -- what was asked of files that are told is what they stand for
-  asked_told : (call : Call) (settings : SettingsValue) (input : InputValue) (texts : List (List ℕ)) → IsAsked call settings input → TellsFiles call texts → (byte_count texts ≤ 2 ^ 26) × IsInput texts input
+  pub asked_told : (call : Call) (settings : SettingsValue) (input : InputValue) (texts : List (List ℕ)) → IsAsked call settings input → TellsFiles call texts → (byte_count texts ≤ 2 ^ 26) × IsInput texts input
   asked_told call settings input texts asked told =
       let read = asked_files call settings input told.names asked told.named in
       let same : read.texts ≡ texts = read_are_told call told.names read.texts texts told.named read.read told in

@@ -7,3 +7,5 @@ mod Answered
 mod Decided
 mod FilesRead
 mod OverFacts
+mod Agreed
+mod AnswerNames

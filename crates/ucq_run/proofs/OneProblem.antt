@@ -4,6 +4,8 @@ use Rattle.std.specs.Prelude.{Result, Ok}
 use Rattle.ucq_terms.specs.Syntax.{Rule, Query, Problem, IsSubset, IsSameSet}
 use Rattle.ucq_terms.specs.Homomorphism.{Covers, IsEquivalent, IsCoreOf}
 use Rattle.ucq_terms.specs.Rewriting.{IsInLevel}
+use Rattle.ucq_terms.specs.Union.{IsExact}
+use Rattle.ucq_chase.proofs.Kept.{equivalent_keeps_exact}
 use Rattle.ucq_terms.proofs.Subsets.{IsSubset-trans}
 use Rattle.ucq_terms.proofs.Maps.{Covers-refl, Covers-trans}
 use Rattle.ucq_store.specs.Laws.{IsCoveredByLevels, IsEnough}
@@ -77,6 +79,14 @@ enough_of_numbered meant a b budget h k enough =
     let query : IsEquivalent a.query b.query = query_of_same b.names meant.query a.query b.query (subst (λ ns. IsQueryOf ns meant.query a.query) names h.query) k.query in
     enough_of_same b.rules a.query b.query budget query (subst (λ (rs : List Rule). IsEnough (problem_with rs a.query) budget) rules enough)
 
+-- an exact union of the one problem is one of the other
+exact_of_numbered : (meant : Meant) (a b : InputValue) (union : List Query) → IsNumbered meant a → IsNumbered meant b → IsExact (problem_of a) union → IsExact (problem_of b) union
+exact_of_numbered meant a b union h k exact =
+    let names : a.names ≡ b.names = h.names ∙ sym k.names in
+    let rules : a.rules ≡ b.rules = h.rules ∙ (ap (λ ns. map (rule_value ns) meant.rules) names ∙ sym k.rules) in
+    let query : IsEquivalent a.query b.query = query_of_same b.names meant.query a.query b.query (subst (λ ns. IsQueryOf ns meant.query a.query) names h.query) k.query in
+    equivalent_keeps_exact b.rules a.query b.query union query (subst (λ (rs : List Rule). IsExact (problem_with rs a.query) union) rules exact)
+
 abbrev stands_for : Meant → Result Meant ReadFault
 stands_for meant = Ok meant
 
@@ -89,3 +99,14 @@ pub enough_of_files :
 enough_of_files texts a b budget h k enough =
     let same : h.0 ≡ k.0 = one_meant h.0 k.0 (meaning_unique texts (stands_for h.0) (stands_for k.0) h.1 k.1) in
     enough_of_numbered k.0 a b budget (subst (λ (m : Meant). IsNumbered m a) same h.2) k.2 enough
+
+-- and have the same names, and the same exact unions
+pub names_of_files : (texts : List (List ℕ)) (a b : InputValue) → IsInput texts a → IsInput texts b → a.names ≡ b.names
+names_of_files texts a b h k =
+    let same : h.0 ≡ k.0 = one_meant h.0 k.0 (meaning_unique texts (stands_for h.0) (stands_for k.0) h.1 k.1) in
+    (subst (λ (m : Meant). IsNumbered m a) same h.2).names ∙ sym k.2.names
+
+pub exact_of_files : (texts : List (List ℕ)) (a b : InputValue) (union : List Query) → IsInput texts a → IsInput texts b → IsExact (problem_of a) union → IsExact (problem_of b) union
+exact_of_files texts a b union h k exact =
+    let same : h.0 ≡ k.0 = one_meant h.0 k.0 (meaning_unique texts (stands_for h.0) (stands_for k.0) h.1 k.1) in
+    exact_of_numbered k.0 a b union (subst (λ (m : Meant). IsNumbered m a) same h.2) k.2 exact

@@ -1,14 +1,25 @@
 -- What was written for a question.
-use Rattle.std.proofs.Common.{◌≡◌, ◌∙◌, ℕ, List, inl, inr, true, false, refl, sym, ap, subst}
+use Rattle.std.proofs.Common.{◌≡◌, ◌∙◌, ℕ, ◌≤◌, List, length, filter, inl, inr, true, false, refl, sym, ap, subst, arith}
+use Rattle.std.proofs.lemmas.List.{length-map}
+use Rattle.std.proofs.lemmas.List.Sums.{count_by-le-length, length-filter}
 use Rattle.std.specs.Option.{is_some}
 use Rattle.std.specs.Prelude.{◌⊎◌, Option, Some, None, IsSome, Result, Ok, Err}
 use Rattle.ucq_terms.specs.Syntax.{Atom, Problem, Query}
 use Rattle.ucq_terms.specs.Union.{IsExact}
 use Rattle.ucq_store.specs.declared.Cut.{Cut as StoreCut}
 use Rattle.ucq_store.specs.declared.Cut.TheVariants.{Rows, Wide}
-use Rattle.ucq_store.specs.Store.{Store, IsCut}
+use Rattle.ucq_terms.proofs.Lists.{All-from_contains}
+use Rattle.ucq_chase.specs.Names.{IsHeldProblem}
+use Rattle.ucq_antichain.specs.declared.Row.{Row}
+use Rattle.ucq_antichain.specs.Rows.{live_queries}
+use Rattle.ucq_store.specs.Store.{Store, query_of, IsCut}
 use Rattle.ucq_store.specs.Lawful.{IsLawful, IsLawfulByLevels, HasCause}
 use Rattle.ucq_store.specs.Laws.{CutListing, EnoughBudget, IsEnough}
+use Rattle.ucq_store.proofs.Listing.{cut_listing}
+use Rattle.ucq_store.proofs.Live.{live_is_row, member_is_live}
+use Rattle.ucq_store.proofs.Named.{derived_keeps_names, listing_keeps_names}
+use Rattle.ucq_print.specs.Laws.{ArePrintable, IsPrintable}
+use Rattle.ucq_print.proofs.Stored.{stored_is_printable}
 use Rattle.ucq_print.specs.Texts.{lines_text, cut_lines, lines_of_cut}
 use Rattle.ucq_run.specs.declared.form.Form.{Form}
 use Rattle.ucq_run.specs.declared.outcome.Outcome.{Outcome}
@@ -16,7 +27,25 @@ use Rattle.ucq_run.specs.declared.outcome.Outcome.TheVariants.{Finished, Cut}
 use Rattle.ucq_run.specs.declared.writing.Unwritten.{Unwritten}
 use Rattle.ucq_run.specs.declared.writing.Unwritten.TheVariants.{Failed, Memory}
 use Rattle.ucq_run.specs.Reading.{IsWritten}
-use Rattle.ucq_run.specs.Output.{SinkChange, TookAll, Question, IsPrintedIn, IsFinishedText, IsCutText, IsCutTextOf, IsWrittenAs, PrintsFor}
+use Rattle.ucq_run.specs.Output.{SinkChange, TookAll, Question, IsPrintedIn, IsFinishedText, ArePrintableRows, IsCutText, IsCutTextOf, IsWrittenAs, PrintsFor}
+
+-- a row of a lawful store is printable where the names of the problem are held
+row_is_printable : (names : List (List ℕ)) (s : Store) → IsLawful s → IsHeldProblem (length names) s.problem → ArePrintableRows names s.rows
+row_is_printable names s lawful held row l =
+    stored_is_printable names (query_of s row) (lawful.rows_are_sound_cores.each row l).stored
+    (listing_keeps_names (length names) s.problem s.rows held (cut_listing s lawful) row l)
+
+-- and so are its live queries
+pub live_are_printable : (names : List (List ℕ)) (s : Store) → IsLawful s → IsHeldProblem (length names) s.problem → s.budget ≤ 65536 → ArePrintable names (live_queries s.rows)
+live_are_printable names s lawful held small = record {
+  each = All-from_contains (IsPrintable names) (live_queries s.rows) (λ q i.
+      let (row, live, same) = member_is_live s.rows q i in
+      subst (IsPrintable names) same (row_is_printable names s lawful held row (live_is_row s.rows row live)));
+  few =
+      let live = filter (λ (r : Row). r.live) s.rows in
+      let within : length s.rows ≤ s.budget = lawful.rows_are_sound_cores.within in
+      omega (arith, length-map live (λ (r : Row). r.query), length-filter (λ (r : Row). r.live) s.rows, count_by-le-length (λ (r : Row). r.live) s.rows, within);
+}
 
 -- a text for the question, written whole or in part
 prints_written : (q : Question) (out : SinkChange) (text : List ℕ) (answer : Result (Unit {0}) Unwritten) (whole outcome : Outcome) →
@@ -28,16 +57,20 @@ prints_written q out text (Err Memory) whole outcome says all w is = subst (λ (
 
 -- the finished text of an exact union
 pub prints_finished : (q : Question) (out : SinkChange) (union : List Query) (text : List ℕ) (answer : Result (Unit {0}) Unwritten) (outcome : Outcome) →
-    IsExact q.problem union → IsPrintedIn q.form q union text →
+    IsExact q.problem union → ArePrintable q.names union → IsPrintedIn q.form q union text →
     IsWritten out.taken_before out.taken_after out.faults_before out.faults_after text answer → IsWrittenAs answer Finished outcome → PrintsFor q out outcome
-prints_finished q out union text answer outcome exact printed w is =
-    let says : IsFinishedText q text = record { union = union; exact = exact; printed = printed } in
+prints_finished q out union text answer outcome exact printable printed w is =
+    let says : IsFinishedText q text = record { union = union; exact = exact; printable = printable; printed = printed } in
     prints_written q out text answer Finished outcome (inl says) (λ took. (text, says, took)) w is
 
 -- the text of a cut store
-cut_says : CutListing → (names : List (List ℕ)) (s : Store) → IsLawful s → IsCut s → IsCutText names s.problem s.budget (lines_text (cut_lines names s))
-cut_says listing names s lawful cut = go s.cut cut lawful.cut_has_cause
+cut_says : CutListing → (names : List (List ℕ)) (s : Store) → IsLawful s → IsHeldProblem (length names) s.problem → IsCut s →
+    IsCutText names s.problem s.budget (lines_text (cut_lines names s))
+cut_says listing names s lawful held cut = go s.cut cut lawful.cut_has_cause
   where
+    rows_printable : ArePrintableRows names s.rows
+    rows_printable row l = row_is_printable names s lawful held row l
+
     go : (c : Option StoreCut) → IsSome c → HasCause s c → IsCutText names s.problem s.budget (lines_text (lines_of_cut names s.budget s.rows c))
     go None some cause = absurd cc
     go (Some (Rows left)) some cause = inl (record {
@@ -50,6 +83,10 @@ cut_says listing names s lawful cut = go s.cut cut lawful.cut_has_cause
       row_of = cause.row_of;
       derived = cause.derived;
       uncovered = cause.uncovered;
+      printable = rows_printable;
+      printable_left =
+          stored_is_printable names left cause.sound_core.stored
+          (derived_keeps_names (length names) s.problem.rules (query_of s cause.row) left held.rules (rows_printable cause.row cause.row_of).held cause.derived);
       printed = refl;
     })
     go (Some (Wide row rule count)) some cause = inr (record {
@@ -63,6 +100,7 @@ cut_says listing names s lawful cut = go s.cut cut lawful.cut_has_cause
       width = count;
       has_width = cause.width;
       wide = cause.wide;
+      printable = rows_printable;
       printed = refl;
     })
 
@@ -77,11 +115,11 @@ not_enough enough s lawful cut h =
     cc
 
 pub prints_cut : CutListing → EnoughBudget → (q : Question) (out : SinkChange) (s : Store) (answer : Result (Unit {0}) Unwritten) (outcome : Outcome) → IsLawfulByLevels s →
-    IsCut s → IsWritten out.taken_before out.taken_after out.faults_before out.faults_after (lines_text (cut_lines q.names s)) answer → IsWrittenAs answer Cut outcome →
+    IsHeldProblem (length q.names) s.problem → IsCut s → IsWritten out.taken_before out.taken_after out.faults_before out.faults_after (lines_text (cut_lines q.names s)) answer → IsWrittenAs answer Cut outcome →
     PrintsFor (question_with q s) out outcome
-prints_cut listing enough q out s answer outcome lawful cut w is =
+prints_cut listing enough q out s answer outcome lawful held cut w is =
     let text : List ℕ = lines_text (cut_lines q.names s) in
-    let says : IsCutTextOf (question_with q s) text = record { cut = cut_says listing q.names s lawful.lawful cut; short = not_enough enough s lawful cut } in
+    let says : IsCutTextOf (question_with q s) text = record { cut = cut_says listing q.names s lawful.lawful held cut; short = not_enough enough s lawful cut } in
     prints_written (question_with q s) out text answer Cut outcome (inr says) (λ took. (text, says, took)) w is
 
 -- of the same problem and budget

@@ -1,5 +1,6 @@
 -- What is asked, and why nothing is.
 use Rattle.std.specs.Prelude.{◌≡◌, ◌<◌, ◌≤◌, ◌^◌, length, Result, Ok, Err}
+use Rattle.ucq_chase.specs.Names.{AreHeldAtoms, IsHeldProblem}
 use Rattle.ucq_reader.specs.Input.{InputValue}
 use Rattle.ucq_words.specs.Settings.{SettingsValue}
 use Rattle.ucq_run.specs.declared.asked.Asked.{Asked}
@@ -12,13 +13,16 @@ use Rattle.ucq_run.specs.Output.{Question, question_of, IsEarly}
 abbrev pub question_in : Asked → Question
 question_in a = record { form = a.form; names = a.names; problem = a.problem; facts = a.facts.items; budget = a.budget }
 
--- 1 to 65,536 rows, 1 to 64 workers, and at most 2^20 facts
+-- 1 to 65,536 rows, 1 to 64 workers, at most 2^20 facts, and each predicate and constant of the problem and the
+-- facts has a name
 pub record IsWithin (a : Asked) : Type 0 where
   pub some : 0 < a.budget
   pub small : a.budget ≤ 65536
   pub one : 0 < a.workers
   pub few : a.workers ≤ 64
   pub facts : length a.facts.items ≤ 2 ^ 20
+  pub held : IsHeldProblem (length a.names) a.problem
+  pub held_facts : AreHeldAtoms (length a.names) a.facts.items
 
 -- The words stand for settings whose job has an input, and this is what they ask of it.
 pub record Asks (call : Call) (a : Asked) : Type 0 where

@@ -5,3 +5,4 @@ pub mod Output
 pub mod Asked
 pub mod Outcomes
 pub mod Run
+pub mod Laws

@@ -15,6 +15,7 @@ use Rattle.ucq_store.specs.Laws.{IsCutListing, IsEnough}
 use Rattle.ucq_reader.specs.Input.{InputValue}
 use Rattle.ucq_eval.specs.Answers.{constants}
 use Rattle.ucq_eval.specs.Tuples.{tuple_cmp}
+use Rattle.ucq_print.specs.Laws.{ArePrintable, ArePrintableTuples, IsPrintable}
 use Rattle.ucq_print.specs.Texts.{answered_text, atom_count, finished_text, rows_cut_text, summary_text, wide_cut_text}
 use Rattle.ucq_words.specs.Settings.{SettingsValue}
 use Rattle.ucq_run.specs.declared.form.Form.{Form}
@@ -70,20 +71,26 @@ pub record AreChaseAnswers (names : List (List ℕ)) (problem : Problem) (facts 
   pub each : (tuple : List ℕ) → Contains tuples tuple ↔ IsChaseAnswer problem facts (constants tuple)
   pub order : IsStrictlySortedBy (tuple_cmp names) tuples
 
--- The union's queries, with the answers where they are asked for, or how many queries, atoms and answers there are. No atom
--- is counted twice.
+-- The union's queries, with the answers where they are asked for, each constant of which has a name; or how many queries,
+-- atoms and answers there are. No atom is counted twice.
 abbrev pub IsPrintedIn : Form → Question → List Query → List ℕ → Type 0
 IsPrintedIn Queries q union text = text ≡ finished_text q.names union
-IsPrintedIn Answers q union text = (tuples : List (List ℕ)) × AreChaseAnswers q.names q.problem q.facts tuples × (text ≡ answered_text q.names union tuples)
+IsPrintedIn Answers q union text =
+    (tuples : List (List ℕ)) × AreChaseAnswers q.names q.problem q.facts tuples × ArePrintableTuples q.names tuples × (text ≡ answered_text q.names union tuples)
 IsPrintedIn Counts q union text =
     All (λ (member : Query). HasEachOnce member.atoms) union ×
     ((tuples : List (List ℕ)) × AreChaseAnswers q.names q.problem q.facts tuples × (text ≡ summary_text (length union) (atom_count union) (length tuples)))
 
--- the finished text of an exact union of the problem
+-- the finished text of an exact union of the problem, each of whose predicates and constants has a name
 pub record IsFinishedText (q : Question) (text : List ℕ) : Type 0 where
   pub union : List Query
   pub exact : IsExact q.problem union
+  pub printable : ArePrintable q.names union
   pub printed : IsPrintedIn q.form q union text
+
+-- each predicate and constant of each row has a name
+abbrev pub ArePrintableRows : List (List ℕ) → List Row → Type 0
+ArePrintableRows names rows = (row : ℕ) → row < length rows → IsPrintable names (query_at rows row)
 
 -- The text of a cut at the budget: of a cut listing of so many rows, and of a sound core of a one-step rewriting of a row,
 -- which no row covers.
@@ -97,6 +104,8 @@ pub record IsRowsCutText (names : List (List ℕ)) (problem : Problem) (budget :
   pub row_of : row < length rows
   pub derived : IsCoreOfOneStep problem.rules (query_at rows row) left
   pub uncovered : (row : ℕ) → row < length rows → ¬ Covers (query_at rows row) left
+  pub printable : ArePrintableRows names rows
+  pub printable_left : IsPrintable names left
   pub printed : text ≡ rows_cut_text names budget rows left
 
 -- The text of a cut at a wide rewriting: of a cut listing, of which that row has with that rule a rewriting that is too wide.
@@ -111,6 +120,7 @@ pub record IsWideCutText (names : List (List ℕ)) (problem : Problem) (text : L
   pub width : ℕ
   pub has_width : HasWidth result.atoms width
   pub wide : ATOMS < width
+  pub printable : ArePrintableRows names rows
   pub printed : text ≡ wide_cut_text names row rule rows
 
 abbrev pub IsCutText : List (List ℕ) → Problem → ℕ → List ℕ → Type 0

@@ -10,6 +10,7 @@ mod answers;
 mod asked;
 mod form;
 mod inputs;
+pub mod laws;
 mod outcome;
 mod over_facts;
 mod reading;

@@ -1,10 +1,11 @@
-use Rattle.std.proofs.Common.{ap₂}
+use Rattle.std.proofs.Common.{ap₂, length, sym, subst}
 use Rattle.ucq_terms.specs.Syntax.{Problem}
 use Rattle.ucq_words.specs.Settings.{settings_value}
 use Rattle.ucq_reader.specs.Outcome.{input_value}
 use Rattle.ucq_run.specs.declared.form.Form.{Form}
 use Rattle.ucq_run.specs.Output.{Question}
-use Rattle.ucq_run.proofs.Asking.{budget_within, workers_within}
+use Rattle.ucq_chase.specs.Names.{IsHeldProblem}
+use Rattle.ucq_run.proofs.Asking.{asked_is_held, budget_within, workers_within}
 use Rattle.ucq_run.proofs.asked.prepare.Goals as goal
 
 pub returns-in-Ok-input_of : goal.returns-in-Ok-input_of
@@ -13,11 +14,20 @@ returns-in-Ok-input_of g c =
     let input = input_value c.in-Ok-input_of.field-0 in
     let budget = budget_within _ settings c.in-Ok.ensures in
     let workers = workers_within _ settings c.in-Ok.ensures in
+    let held = asked_is_held _ settings.job input c.in-Ok-input_of.ensures.input in
     record {
       settings = settings;
       input = input;
       asked = record { stand = c.in-Ok.ensures; has = c.in-Ok-input_of.ensures.input };
       question = ap₂ (λ (f : Form) (p : Problem). let q : Question = record { form = f; names = input.names; problem = p; facts = input.facts; budget = settings.budget } in q)
           c.form_of-form.ensures c.new.ensures;
-      within = record { some = budget.low; small = budget.high; one = workers.low; few = workers.high; facts = c.in-Ok-input_of.ensures.facts };
+      within = record {
+        some = budget.low;
+        small = budget.high;
+        one = workers.low;
+        few = workers.high;
+        facts = c.in-Ok-input_of.ensures.facts;
+        held = subst (IsHeldProblem (length input.names)) (sym c.new.ensures) held.problem;
+        held_facts = held.facts;
+      };
     }

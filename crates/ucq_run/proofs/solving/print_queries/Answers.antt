@@ -5,6 +5,6 @@ use Rattle.ucq_run.proofs.Printing.{prints_finished}
 use Rattle.ucq_run.proofs.solving.print_queries.Goals as goal
 
 pub returns : goal.returns
-returns g c = λ problem budget exact.
-    prints_finished (record { form = Queries; names = c.args.names.now; problem = problem; facts = c.args.facts.now; budget = budget }) _ c.args.union.now
-    (finished_text c.args.names.now c.args.union.now) c.write_text.result c.written.result exact refl c.write_text.ensures c.written.ensures
+returns g c = λ problem facts budget exact printable.
+    prints_finished (record { form = Queries; names = c.args.names.now; problem = problem; facts = facts; budget = budget }) _ c.args.union.now
+    (finished_text c.args.names.now c.args.union.now) c.write_text.result c.written.result exact printable refl c.write_text.ensures c.written.ensures
