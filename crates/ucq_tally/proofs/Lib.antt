@@ -1,0 +1,3 @@
+pub mod Saturated
+pub mod Walked
+pub mod Asked
