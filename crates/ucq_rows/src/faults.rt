@@ -1,11 +1,13 @@
-//! Refusals, and faults of the outside.
-use crate::harness::{ends, run_on, run_over};
+//! Refused words and refused files.
+use crate::harness::{begins, ends, run_over};
+use crate::university::UNIVERSITY;
+use std::alloc::{AllocError, Global};
 use std::test::Fail;
 
 const TWO_EDGES: &str = "? :- p(X,Y), p(Z,W).\n";
 
 /// Files that are refused, and the line of each.
-const REFUSED: [(&str, &str); 11] = [
+const REFUSED: [(&str, &str); 18] = [
     ("? :- p(a)", "ucq: file 0 byte 0: statement not ended"),
     ("? :- p(X) & q(X).", "ucq: file 0 byte 10: bad byte"),
     ("? :- ex:p(X).", "ucq: file 0 byte 5: unknown prefix"),
@@ -31,6 +33,19 @@ const REFUSED: [(&str, &str); 11] = [
         "! :- p(X). ? :- p(X).",
         "ucq: file 0 statement 0: constraint is not built",
     ),
+    ("? :- p().", "ucq: file 0 statement 0 byte 7: bad statement"),
+    (
+        "? :- p(1.5).",
+        "ucq: file 0 statement 0 byte 8: bad statement",
+    ),
+    ("? :- X = Y.", "ucq: file 0 byte 7: bad byte"),
+    ("\0", "ucq: file 0 byte 0: bad byte"),
+    ("? :- p(\"a", "ucq: file 0 byte 7: bad byte"),
+    (
+        "? :- p(X)..",
+        "ucq: file 0 statement 1 byte 10: bad statement",
+    ),
+    ("@fact", "ucq: file 0 statement 0 byte 0: bad statement"),
     (
         "? :- p(X,X,X,X,X,X,X,X,X,X,X,X,X,X,X,X,X).",
         "ucq: file 0 statement 0: arity limit passed with 17",
@@ -45,6 +60,56 @@ fn a_refused_file_has_its_line_and_no_output(rt: HostRuntime) -> Result<(), Fail
             ends(rt.alloc(), &["f"], file, 4, "", err.as_str())?,
             "{file}"
         );
+    }
+    Ok(())
+}
+
+#[test]
+fn a_name_has_at_most_1024_bytes(rt: HostRuntime) -> Result<(), Fail> {
+    let name = "n".repeat(rt.alloc(), 1_024)?;
+    let longest = format!(in rt.alloc(); "? :- {name}(X).")?;
+    let longer = format!(in rt.alloc(); "? :- n{name}(X).")?;
+    let line = "ucq: file 0 statement 0: name limit passed with 1025\n";
+    assert!(rt; begins(rt.alloc(), &["f"], longest.as_str(), 0, "% finished\n")?);
+    assert!(rt; ends(rt.alloc(), &["f"], longer.as_str(), 4, "", line)?);
+    Ok(())
+}
+
+/// A query of so many atoms, which are all different.
+fn query_of(alloc: Global, atoms: u32) -> Result<String, AllocError> {
+    let mut query = String::from_str(alloc, "? :- p(a)")?;
+    for i in 1..atoms {
+        write!(query, ", p(a{i})")?;
+    }
+    query.push_str(".")?;
+    Ok(query)
+}
+
+#[test]
+fn a_query_has_at_most_32_atoms(rt: HostRuntime) -> Result<(), Fail> {
+    let most = query_of(rt.alloc(), 32)?;
+    let more = query_of(rt.alloc(), 33)?;
+    let line = "ucq: file 0 statement 0: atoms limit passed with 33\n";
+    assert!(rt;
+        begins(
+            rt.alloc(),
+            &["f"],
+            most.as_str(),
+            0,
+            "% finished\n% queries 1\n"
+        )?
+    );
+    assert!(rt; ends(rt.alloc(), &["f"], more.as_str(), 4, "", line)?);
+    Ok(())
+}
+
+#[test]
+fn a_file_without_its_last_dot_is_refused(rt: HostRuntime) -> Result<(), Fail> {
+    let file = UNIVERSITY.as_bytes();
+    for length in 0..file.len() - 1 {
+        let files: [(&str, &[u8]); 1] = [("f", &file[..length])];
+        let told = run_over(rt.alloc(), &["f"], &files, &[], &[])?;
+        assert!(rt; told.status == 4 && told.out.len() == 0, "{length}");
     }
     Ok(())
 }
@@ -131,34 +196,6 @@ fn the_first_file_that_is_refused_decides(rt: HostRuntime) -> Result<(), Fail> {
         assert_eq!(rt; told.out.len(), 0);
         assert_eq!(rt; told.err.as_slice(), line);
     }
-    Ok(())
-}
-
-#[test]
-fn a_pull_that_fails_names_its_byte(rt: HostRuntime) -> Result<(), Fail> {
-    let rows: [(&str, u64, &[u8]); 3] = [
-        ("f", 1, b"ucq: read fault in file 0 at byte 21\n"),
-        ("f", 0, b"ucq: read fault in file 0 at byte 0\n"),
-        ("g", 9, b"ucq: read fault in file 0 at byte 0\n"),
-    ];
-    for (word, call, line) in rows {
-        let told = run_on(rt.alloc(), &[word], TWO_EDGES.as_bytes(), &[call], &[])?;
-        assert_eq!(rt; told.status, 3);
-        assert_eq!(rt; told.out.len(), 0);
-        assert_eq!(rt; told.err.as_slice(), line);
-    }
-    Ok(())
-}
-
-#[test]
-fn a_push_that_fails_leaves_the_lines_before_it(rt: HostRuntime) -> Result<(), Fail> {
-    let told = run_on(rt.alloc(), &["f"], TWO_EDGES.as_bytes(), &[], &[2])?;
-    assert_eq!(rt; told.status, 6);
-    assert_eq!(rt;
-        told.out.as_slice(),
-        b"% finished\n% queries 1\n".as_slice()
-    );
-    assert_eq!(rt; told.err.as_slice(), b"ucq: write fault\n".as_slice());
     Ok(())
 }
 

@@ -37,17 +37,18 @@ fn shelf(alloc: Global, files: &[(&str, &[u8])], pulls: &[u64]) -> Result<Memory
     Ok(MemoryShelf::new(held, pulls.to_vec(alloc)?))
 }
 
-/// Runs the words alone over these files. The calls of shelf and output in the lists fail.
-pub fn run_over(
+/// Runs the words alone over these files. The calls of the shelf, of the output and of the error stream in the lists fail.
+pub fn run_failing(
     alloc: Global,
     words: &[&str],
     files: &[(&str, &[u8])],
     pulls: &[u64],
     pushes: &[u64],
+    lines: &[u64],
 ) -> Result<Told, AllocError> {
     let mut shelf = shelf(alloc, files, pulls)?;
     let mut out = sink(alloc, pushes)?;
-    let mut err = sink(alloc, &[])?;
+    let mut err = sink(alloc, lines)?;
     let words = words_of(alloc, words)?;
     let status = run_alone(alloc, words.as_slice(), &mut shelf, &mut out, &mut err);
     Ok(Told {
@@ -55,6 +56,17 @@ pub fn run_over(
         out: out.taken().to_vec(alloc)?,
         err: err.taken().to_vec(alloc)?,
     })
+}
+
+/// The same with an error stream that takes every line.
+pub fn run_over(
+    alloc: Global,
+    words: &[&str],
+    files: &[(&str, &[u8])],
+    pulls: &[u64],
+    pushes: &[u64],
+) -> Result<Told, AllocError> {
+    run_failing(alloc, words, files, pulls, pushes, &[])
 }
 
 /// Runs the words over one file, `f`, with workers that pass the gate.
@@ -111,4 +123,16 @@ pub fn ends(
             && told.out.as_slice() == out.as_bytes()
             && told.err.as_slice() == err.as_bytes(),
     )
+}
+
+/// Whether a run of these words over the file ends with this status, and its output begins so.
+pub fn begins(
+    alloc: Global,
+    words: &[&str],
+    file: &str,
+    status: u8,
+    beginning: &str,
+) -> Result<bool, AllocError> {
+    let told = run_on(alloc, words, file.as_bytes(), &[], &[])?;
+    Ok(told.status == status && told.out.as_slice().starts_with(beginning.as_bytes()))
 }

@@ -1,5 +1,5 @@
 //! Unions and cuts.
-use crate::harness::ends;
+use crate::harness::{begins, ends};
 use crate::university::{UNION, UNIVERSITY};
 use std::test::Fail;
 
@@ -75,6 +75,8 @@ fn a_query_is_rewritten_to_its_exact_union(rt: HostRuntime) -> Result<(), Fail> 
 fn the_university_has_ten_queries(rt: HostRuntime) -> Result<(), Fail> {
     let out = format!(in rt.alloc(); "% finished\n% queries {UNION}")?;
     assert!(rt; ends(rt.alloc(), &["f"], UNIVERSITY, 0, out.as_str(), "")?);
+    let unended = UNIVERSITY.trim_end_matches('\n');
+    assert!(rt; ends(rt.alloc(), &["f"], unended, 0, out.as_str(), "")?);
     Ok(())
 }
 
@@ -131,6 +133,16 @@ fn wide(rt: &HostRuntime, query: &str) -> Result<String, Fail> {
 #[test]
 fn a_rewriting_of_more_than_128_atoms_cuts(rt: HostRuntime) -> Result<(), Fail> {
     let alloc = rt.alloc();
+    let four = wide(&rt, "p(a), p(b), p(c), p(d)")?;
+    assert!(rt;
+        begins(
+            alloc,
+            &["f"],
+            four.as_str(),
+            0,
+            "% finished\n% queries 16\n"
+        )?
+    );
     let five = wide(&rt, "p(a), p(b), p(c), p(d), p(e)")?;
     let cut = "% cut wide row 0 rule 0\n? :- p(a), p(b), p(c), p(d), p(e).\n";
     assert!(rt; ends(alloc, &["f"], five.as_str(), 5, cut, "")?);
