@@ -1,7 +1,9 @@
 #!/usr/bin/env bash
 # Times the proved program on rules and queries that it rewrites.
-# Usage: bench/rewriting.sh, after ./ucq or rt ci has built crates/ucq/out/ucq.
+# Usage: bench/rewriting.sh, after rt ci has built crates/ucq/out/ucq and crates/ucq_tally/out/ucq_tally, or ./ucq the one
+# and 'rt run' in crates/ucq_tally the other.
 . "$(dirname "$0")/setup.sh"
+[ -x "$tally" ] || { echo "build the tally first, by 'rt run' in crates/ucq_tally" >&2; exit 1; }
 . "$(dirname "$0")/inputs.sh"
 
 # 1,000 classes, each below the next.
@@ -27,8 +29,8 @@ paths() {
     echo "? :- e(a,b)."
 }
 
-# Each live row of a finished run was tried with each rule, so "tried" is the least number of steps that were made.
-printf '%-8s %7s %7s %9s %10s %10s\n' input status rows tried seconds kilobytes
+# The rows, live and dead, and the rewritings that were tried are counted by another program, which isn't timed.
+printf '%-8s %7s %8s %7s %9s %10s %10s\n' input status queries rows tried seconds kilobytes
 for name in chain tree pairs roles pieces step paths; do
     $name > "$folder/$name.dlgp"
     words=()
@@ -38,9 +40,7 @@ for name in chain tree pairs roles pieces step paths; do
     /usr/bin/time -f '%e %M' -o "$folder/time" "$program" "${words[@]}" "$folder/$name.dlgp" > "$folder/out"
     status=$?
     read -r seconds kilobytes < <(tail -n 1 "$folder/time")
-    rows=$(grep -c '^?' "$folder/out")
-    rules=$(grep -c '^[a-z].*:-' "$folder/$name.dlgp")
-    tried=-
-    [ $status -eq 0 ] && tried=$((rows * rules))
-    printf '%-8s %7d %7d %9s %10s %10s\n' $name $status "$rows" "$tried" "$seconds" "$kilobytes"
+    queries=$(grep -c '^?' "$folder/out")
+    read -r rows tried < <("$tally" "${words[@]}" "$folder/$name.dlgp" | sed 's/.* //' | paste -s -d ' ')
+    printf '%-8s %7d %8d %7s %9s %10s %10s\n' $name $status "$queries" "${rows:--}" "${tried:--}" "$seconds" "$kilobytes"
 done
