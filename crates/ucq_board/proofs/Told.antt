@@ -6,8 +6,10 @@ use mathlib.Core.Option.{some}
 use lib.ListN.{get_elem?}
 use Rattle.atomic_table.proofs.Lists.{set_else}
 use Rattle.ucq_board.specs.declared.rule.View.{View}
-use Rattle.ucq_board.specs.Lists.{times, once_below}
-use Rattle.ucq_board.specs.Rule.{cursor_in, total, calls_of, spent_view}
+use Rattle.ucq_board.specs.Lists.{times, once_below, AreOnce}
+use Rattle.ucq_board.specs.declared.rule.Key.{Key}
+use Rattle.atomic_table.specs.Table.{State}
+use Rattle.ucq_board.specs.Rule.{cursor_in, total, calls_of, spent_view, Keeps}
 use Rattle.ucq_board.specs.Laws.{SomeView, DrawnOnce, DrawnBelow, FinishedOnce, MarksTell, StopTells, CursorIsSmall}
 use Rattle.ucq_board.proofs.Times.{once_small, once_within, contained_times, times_contained, times_absent}
 use Rattle.ucq_board.proofs.Totals.{total_set, part_le}
@@ -38,15 +40,23 @@ some_positive f (x ∷ xs) l =
 once_at : (x n : ℕ) → x < n → 1 ≤ once_below x n
 once_at x n h = grind (arith, common_steps)
 
+-- one view has each drawn row once
+drawn_by_one : (k : Key) (s : State ℕ View) (id : ℕ) (v : View) → Keeps k s → get_elem? s.views id ≡ some v → AreOnce v.drawn
+drawn_by_one k s id v h at row =
+    let p = part_le (λ u. times row u.drawn) s.views id v at in
+    let q = h.drawn row in
+    let r = once_small row (min (cursor_in s.words) k.rows) in
+    omega arith
+
 pub drawn_once : DrawnOnce
-drawn_once k s id other v w h at there apart = (
-  (λ row. let p = part_le (λ u. times row u.drawn) s.views id v at in let q = h.drawn row in let r = once_small row (min (cursor_in s.words) k.rows) in omega arith),
-  (λ row mine.
+drawn_once k s id v h at = (
+  drawn_by_one k s id v h at,
+  λ other w there apart row mine.
       let a = contained_times row v.drawn mine in
       let p = two_le (λ u. times row u.drawn) s.views id other v w refl at there apart in
       let q = h.drawn row in
       let r = once_small row (min (cursor_in s.words) k.rows) in
-      times_absent row w.drawn (omega arith)),
+      times_absent row w.drawn (omega arith),
 )
 
 pub drawn_below : DrawnBelow
@@ -67,17 +77,20 @@ drawn_below k s row h = (
 )
 
 pub finished_once : FinishedOnce
-finished_once k s id other v w h at there apart = (
-  (λ row. let a = (h.each id v at).finished row in let b = (drawn_once k s id other v w h at there apart).0 row in omega arith),
+finished_once k s id v h at = (
+  (λ row. let a = (h.each id v at).finished row in let b = drawn_by_one k s id v h at row in omega arith),
   (λ row mine.
       let a = contained_times row v.finished mine in
       let b = (h.each id v at).finished row in
+      times_contained row v.drawn (omega arith)),
+  (λ other w there apart row mine.
+      let a = contained_times row v.finished mine in
+      let b = (h.each id v at).finished row in
       let c = (h.each other w there).finished row in
-      let drawn = times_contained row v.drawn (omega arith) in
       let p = two_le (λ u. times row u.drawn) s.views id other v w refl at there apart in
       let q = h.drawn row in
       let r = once_small row (min (cursor_in s.words) k.rows) in
-      (drawn, times_absent row w.finished (omega arith))),
+      times_absent row w.finished (omega arith)),
 )
 
 pub marks_tell : MarksTell

@@ -15,15 +15,14 @@ pub record SomeView (P : View → Type 0) (views : List View) : Type 0 where
   pub at : get_elem? views id ≡ some view
   pub has : P view
 
--- no row is drawn by two seats, or twice by one
+-- no row is drawn twice by one seat, or by two
 abbrev pub DrawnOnce : Type 0
 DrawnOnce =
-    (k : Key) (s : State ℕ View) (id other : ℕ) (v w : View) →
+    (k : Key) (s : State ℕ View) (id : ℕ) (v : View) →
     Keeps k s →
     get_elem? s.views id ≡ some v →
-    get_elem? s.views other ≡ some w →
-    other ≢ id →
-    AreOnce v.drawn × ((row : ℕ) → Contains v.drawn row → ¬ Contains w.drawn row)
+    AreOnce v.drawn
+    × ((other : ℕ) (w : View) → get_elem? s.views other ≡ some w → other ≢ id → (row : ℕ) → Contains v.drawn row → ¬ Contains w.drawn row)
 
 -- a row is drawn by some seat exactly where it is below the cursor and the number of rows
 abbrev pub DrawnBelow : Type 0
@@ -32,16 +31,15 @@ DrawnBelow =
     Keeps k s →
     SomeView (λ v. Contains v.drawn row) s.views ↔ ((row < cursor_in s.words) × (row < k.rows))
 
--- a row is finished by a seat that has drawn it, by no other, and once
+-- what a seat has finished it has drawn, it has finished it once, and no other seat has
 abbrev pub FinishedOnce : Type 0
 FinishedOnce =
-    (k : Key) (s : State ℕ View) (id other : ℕ) (v w : View) →
+    (k : Key) (s : State ℕ View) (id : ℕ) (v : View) →
     Keeps k s →
     get_elem? s.views id ≡ some v →
-    get_elem? s.views other ≡ some w →
-    other ≢ id →
     AreOnce v.finished
-    × ((row : ℕ) → Contains v.finished row → Contains v.drawn row × ¬ Contains w.finished row)
+    × ((row : ℕ) → Contains v.finished row → Contains v.drawn row)
+    × ((other : ℕ) (w : View) → get_elem? s.views other ≡ some w → other ≢ id → (row : ℕ) → Contains v.finished row → ¬ Contains w.finished row)
 
 -- the word of a row is 1 exactly where some seat has finished it, and else 0
 abbrev pub MarksTell : Type 0

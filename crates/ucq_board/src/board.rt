@@ -100,12 +100,11 @@ impl Closed {
         self.words.word(STOP) == 1
     }
 
-    /// Whether a row was finished.
+    /// Whether a row was finished. No number past the rows is.
     pub fn is_done(&self, row: u32) -> bool
-        requires { row < length self.now.done }
         ensures { result ≡ is_done_in self.now row }
     {
-        self.words.word(row as usize + FIRST_ROW) == 1
+        row < self.rows && self.words.word(row as usize + FIRST_ROW) == 1
     }
 }
 

@@ -2,7 +2,7 @@
 
 ghost use Rattle.ucq_board.specs.Laws.{CursorIsSmall, DrawnBelow, DrawnOnce, FinishedOnce, MarksTell, StopTells};
 
-/// No row is drawn by two seats, or twice by one.
+/// No row is drawn twice by one seat, or by two.
 pub fn drawn_once()
     ensures { DrawnOnce }
 {}
@@ -12,7 +12,7 @@ pub fn drawn_below()
     ensures { DrawnBelow }
 {}
 
-/// A row is finished once at most, by a seat that has drawn it.
+/// What a seat has finished it has drawn. It has finished it once, and no other seat has.
 pub fn finished_once()
     ensures { FinishedOnce }
 {}

@@ -4,8 +4,6 @@
 mod board;
 pub mod laws;
 mod rule;
-#[cfg(test)]
-mod tests;
 
 pub use board::{Board, Closed, Seat};
 use std::alloc::{AllocError, AllocFailed};

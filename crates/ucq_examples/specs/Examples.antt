@@ -8,6 +8,7 @@ use Rattle.ucq_terms.specs.Chase.{IsChaseAnswer}
 use Rattle.ucq_terms.specs.Unifier.{IsPieceUnifier, IsSinglePiece}
 use Rattle.ucq_terms.specs.Rewriting.{Member, IsAggregate, Rewrites, HasWidth, IsOneStep, IsInLevel}
 use Rattle.ucq_terms.specs.Union.{IsExact}
+use Rattle.ucq_store.specs.Laws.{IsEnough}
 
 -- The variables X, Y, Z, W and V, and the constants a and b.
 abbrev pub X : Term
@@ -185,3 +186,11 @@ new_name = Variable 5
 -- With t(X) :- s(Y), ? :- t(X) goes to ? :- s(U), where U is a variable of the copy alone.
 abbrev pub BodyApart : Type 0
 BodyApart = Rewrites (asks (t X ∷ [])) (anyone_rule ∷ []) (member first ∷ []) (asks (s new_name ∷ []))
+
+-- t(X) :- s(X)
+abbrev pub mark_rule : Rule
+mark_rule = record { heads = t X ∷ []; body = s X ∷ [] }
+
+-- With t(X) :- s(X), a budget of two rows is enough for ? :- t(a): the queries of all levels are ? :- t(a) and ? :- s(a).
+abbrev pub BudgetOfTwo : Type 0
+BudgetOfTwo = IsEnough (record { rules = mark_rule ∷ []; query = asks (t constant_a ∷ []) }) 2

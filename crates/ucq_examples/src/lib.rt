@@ -2,7 +2,7 @@
 #![tactic(auto)]
 
 ghost use Rattle.ucq_examples.specs.Examples.{BodyApart, ChaseAnswers, ConstantsClash, Cores, EqualHeadAtoms, ExistentialMeetsConstant, HeadOfTwoFrees, RepeatedAtom};
-ghost use Rattle.ucq_examples.specs.Examples.{SeparatingBlocks, SharedExistential, TwoCopies, TwoPieces};
+ghost use Rattle.ucq_examples.specs.Examples.{BudgetOfTwo, SeparatingBlocks, SharedExistential, TwoCopies, TwoPieces};
 
 /// Two atoms that are a piece each are rewritten together by an aggregate, and are no single piece.
 pub fn two_pieces()
@@ -62,4 +62,9 @@ pub fn equal_head_atoms()
 /// A body that shares no variable with its head comes in with variables of its own.
 pub fn body_apart()
     ensures { BodyApart }
+{}
+
+/// A budget that is enough for a problem with one rewriting.
+pub fn budget_of_two()
+    ensures { BudgetOfTwo }
 {}

@@ -3,3 +3,4 @@ pub mod Files
 pub mod Shelves
 pub mod Sinks
 pub mod Edges
+pub mod Taken

@@ -3,6 +3,7 @@
 #![tactic(auto)]
 
 mod files;
+pub mod laws;
 mod memory;
 mod shelves;
 mod streams;
@@ -11,6 +12,3 @@ pub use files::{Failed, Gate, NoMemoryOutside, OpenGate, Shelf, Sink};
 pub use memory::{MemorySink, ROOM, SureSink};
 pub use shelves::{MemoryShelf, SureShelf};
 pub use streams::{FileShelf, StandardError, StreamSink};
-
-#[cfg(test)]
-mod tests;

@@ -12,7 +12,7 @@ use Rattle.ucq_terms.specs.Numbering.{numbered_term, numbered_terms, numbered_at
 use Rattle.ucq_terms.specs.Names.{name_text}
 use Rattle.ucq_terms.specs.Equality.{number_in}
 use Rattle.ucq_eval.specs.Tuples.{tuple_text}
-use Rattle.ucq_print.specs.Texts.{line_feed, term_text, terms_text, query_text, query_line, lines_text, count_line, finished_lines, finished_text, tuple_line, answer_lines, answered_text}
+use Rattle.ucq_print.specs.Texts.{line_feed, term_text, terms_text, query_text, query_line, lines_text, count_line, finished_lines, finished_text, tuple_line, answer_count_line, answer_lines, answered_text}
 use Rattle.ucq_chase.specs.Names.{IsHeldTerm, IsHeldAtom}
 use Rattle.ucq_print.specs.Laws.{IsPrintable, AreReadable, ArePrintable, ArePrintableTuples}
 use Rattle.ucq_print.proofs.Spelled.{AreOne, decimals_apart, tails}
@@ -113,34 +113,55 @@ module _ (names : List (List ℕ)) (readable : AreReadable names) where
   tuple_shape : (t rest : List ℕ) → tuple_line names t ++ rest ≡ codes "% " ++ (tuple_text names t ++ 10 ∷ rest)
   tuple_shape t rest = append_assoc (codes "% " ++ tuple_text names t) line_feed rest ∙ append_assoc (codes "% ") (tuple_text names t) (10 ∷ rest)
 
-  tuples_apart : (one two : List (List ℕ)) → All (All (λ c. c < length names)) one → All (All (λ c. c < length names)) two → length one ≡ length two → tuple_lines one ≡ tuple_lines two → one ≡ two
-  tuples_apart [] [] h k l e = refl
-  tuples_apart [] (u ∷ us) h k l e = absurd (omega arith)
-  tuples_apart (t ∷ ts) [] h k l e = absurd (omega arith)
-  tuples_apart (t ∷ ts) (u ∷ us) h k l e =
-      let whole = append_cancel_left (codes "% ") (tuple_text names t ++ 10 ∷ tuple_lines ts) (tuple_text names u ++ 10 ∷ tuple_lines us) (sym (tuple_shape t (tuple_lines ts)) ∙ (e ∙ tuple_shape u (tuple_lines us))) in
-      let one = tuple_apart t u (10 ∷ tuple_lines ts) (10 ∷ tuple_lines us) (h zero t (omega arith)) (k zero u (omega arith)) whole in
-      let others = tuples_apart ts us (λ i d l. h (suc i) d (omega (arith, l))) (λ i d l. k (suc i) d (omega (arith, l))) (omega (arith, l)) (tails one.rest) in
-      ap₂ (λ (a : List ℕ) (b : List (List ℕ)). a ∷ b) one.front others
+  tuples_apart : (one two : List (List ℕ)) (x y : List ℕ) → All (All (λ c. c < length names)) one → All (All (λ c. c < length names)) two → length one ≡ length two →
+      tuple_lines one ++ x ≡ tuple_lines two ++ y → AreOne one two x y
+  tuples_apart [] [] x y h k l e = record { front = refl; rest = e }
+  tuples_apart [] (u ∷ us) x y h k l e = absurd (omega arith)
+  tuples_apart (t ∷ ts) [] x y h k l e = absurd (omega arith)
+  tuples_apart (t ∷ ts) (u ∷ us) x y h k l e =
+      let joined : tuple_line names t ++ (tuple_lines ts ++ x) ≡ tuple_line names u ++ (tuple_lines us ++ y) =
+      sym (append_assoc (tuple_line names t) (tuple_lines ts) x) ∙ (e ∙ append_assoc (tuple_line names u) (tuple_lines us) y) in
+      let whole =
+      append_cancel_left (codes "% ") (tuple_text names t ++ 10 ∷ (tuple_lines ts ++ x)) (tuple_text names u ++ 10 ∷ (tuple_lines us ++ y))
+      (sym (tuple_shape t (tuple_lines ts ++ x)) ∙ (joined ∙ tuple_shape u (tuple_lines us ++ y))) in
+      let one = tuple_apart t u (10 ∷ (tuple_lines ts ++ x)) (10 ∷ (tuple_lines us ++ y)) (h zero t (omega arith)) (k zero u (omega arith)) whole in
+      let others = tuples_apart ts us x y (λ i d l. h (suc i) d (omega (arith, l))) (λ i d l. k (suc i) d (omega (arith, l))) (omega (arith, l)) (tails one.rest) in
+      record { front = ap₂ (λ (a : List ℕ) (b : List (List ℕ)). a ∷ b) one.front others.front; rest = others.rest }
 
-  answers_shape : (tuples : List (List ℕ)) → lines_text (answer_lines names tuples) ≡ codes "% answers " ++ (decimal (length tuples) ++ 10 ∷ tuple_lines tuples)
-  answers_shape tuples =
-      append_assoc (codes "% answers " ++ decimal (length tuples)) line_feed (tuple_lines tuples) ∙ append_assoc (codes "% answers ") (decimal (length tuples)) (10 ∷ tuple_lines tuples)
+  answers_shape : (tuples : List (List ℕ)) (x : List ℕ) → lines_text (answer_lines names tuples) ++ x ≡ codes "% answers " ++ (decimal (length tuples) ++ 10 ∷ (tuple_lines tuples ++ x))
+  answers_shape tuples x =
+      append_assoc (answer_count_line (length tuples)) (tuple_lines tuples) x ∙
+      (append_assoc (codes "% answers " ++ decimal (length tuples)) line_feed (tuple_lines tuples ++ x) ∙
+      append_assoc (codes "% answers ") (decimal (length tuples)) (10 ∷ (tuple_lines tuples ++ x)))
 
-  answers_apart : (one two : List (List ℕ)) → ArePrintableTuples names one → ArePrintableTuples names two → lines_text (answer_lines names one) ≡ lines_text (answer_lines names two) → one ≡ two
-  answers_apart one two h k e =
-      let counted = append_cancel_left (codes "% answers ") (decimal (length one) ++ 10 ∷ tuple_lines one) (decimal (length two) ++ 10 ∷ tuple_lines two) (sym (answers_shape one) ∙ (e ∙ answers_shape two)) in
-      let numbers = decimals_apart (length one) (length two) 10 10 (tuple_lines one) (tuple_lines two) h.few k.few refl refl counted in
-      tuples_apart one two h.held k.held numbers.front (tails numbers.rest)
+  answers_apart : (one two : List (List ℕ)) (x y : List ℕ) → ArePrintableTuples names one → ArePrintableTuples names two →
+      lines_text (answer_lines names one) ++ x ≡ lines_text (answer_lines names two) ++ y → AreOne one two x y
+  answers_apart one two x y h k e =
+      let counted =
+      append_cancel_left (codes "% answers ") (decimal (length one) ++ 10 ∷ (tuple_lines one ++ x)) (decimal (length two) ++ 10 ∷ (tuple_lines two ++ y))
+      (sym (answers_shape one x) ∙ (e ∙ answers_shape two y)) in
+      let numbers = decimals_apart (length one) (length two) 10 10 (tuple_lines one ++ x) (tuple_lines two ++ y) h.few k.few refl refl counted in
+      tuples_apart one two x y h.held k.held numbers.front (tails numbers.rest)
 
   -- a text with answers begins with the finished text
   pub answered_shape : (union : List Query) (tuples : List (List ℕ)) → answered_text names union tuples ≡ finished_text names union ++ lines_text (answer_lines names tuples)
   answered_shape union tuples = flat_map-append (λ line. line) (finished_lines names union) (answer_lines names tuples)
 
+  pub answered_apart : (one two : List Query) (answers_one answers_two : List (List ℕ)) (x y : List ℕ) → ArePrintable names one → ArePrintable names two →
+      ArePrintableTuples names answers_one → ArePrintableTuples names answers_two → answered_text names one answers_one ++ x ≡ answered_text names two answers_two ++ y →
+      (map numbered_query one ≡ map numbered_query two) × (answers_one ≡ answers_two) × (x ≡ y)
+  answered_apart one two answers_one answers_two x y h k i j e =
+      let begins = beginning_apart one two (lines_text (answer_lines names answers_one) ++ x) (lines_text (answer_lines names answers_two) ++ y) h k
+      (sym (shape one answers_one x) ∙ (e ∙ shape two answers_two y)) in
+      let answers = answers_apart answers_one answers_two x y i j begins.rest in
+      (begins.front, answers.front, answers.rest)
+    where
+      shape : (union : List Query) (tuples : List (List ℕ)) (z : List ℕ) → answered_text names union tuples ++ z ≡ finished_text names union ++ (lines_text (answer_lines names tuples) ++ z)
+      shape union tuples z = ap (λ l. l ++ z) (answered_shape union tuples) ∙ append_assoc (finished_text names union) (lines_text (answer_lines names tuples)) z
+
   pub answered_tells : (one two : List Query) (answers_one answers_two : List (List ℕ)) → ArePrintable names one → ArePrintable names two → ArePrintableTuples names answers_one →
       ArePrintableTuples names answers_two → answered_text names one answers_one ≡ answered_text names two answers_two →
       (map numbered_query one ≡ map numbered_query two) × (answers_one ≡ answers_two)
   answered_tells one two answers_one answers_two h k i j e =
-      let begins = beginning_apart one two (lines_text (answer_lines names answers_one)) (lines_text (answer_lines names answers_two)) h k
-      (sym (answered_shape one answers_one) ∙ (e ∙ answered_shape two answers_two)) in
-      (begins.front, answers_apart answers_one answers_two i j begins.rest)
+      let tells = answered_apart one two answers_one answers_two [] [] h k i j (ap (λ l. l ++ []) e) in
+      (tells.0, tells.1)

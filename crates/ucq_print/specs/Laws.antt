@@ -1,14 +1,15 @@
 -- What a printed text tells of its union.
-use Rattle.std.specs.Prelude.{◌≡◌, ◌≢◌, ◌<◌, ◌^◌, ◌⊎◌, ◌++◌, ℕ, List, length, map, All, AllPairs}
+use Rattle.std.specs.Prelude.{◌≡◌, ◌≢◌, ◌<◌, ◌^◌, ◌⊎◌, ◌++◌, ℕ, List, length, map, All, AllPairs, codes}
 use Rattle.ucq_terms.specs.Syntax.{Query}
 use Rattle.ucq_terms.specs.Query.{IsStored}
 use Rattle.ucq_terms.specs.Numbering.{query_order, numbered_query}
+use Rattle.ucq_antichain.specs.declared.Row.{Row}
 use Rattle.ucq_lexer.specs.declared.Kind.TheVariants.{Identifier, Iri, Integer, Text}
 use Rattle.ucq_lexer.specs.Spelling.{IsSpelled}
 use Rattle.ucq_chase.specs.Names.{AreHeldAtoms, IsHeldQuery, IsHeldProblem}
 use Rattle.ucq_reader.specs.Input.{InputValue, IsInput, IsNumbered}
 use Rattle.ucq_reader.specs.Made.{made}
-use Rattle.ucq_print.specs.Texts.{answered_text, finished_text}
+use Rattle.ucq_print.specs.Texts.{answered_text, finished_text, rows_cut_text, wide_cut_text}
 
 -- the spelling of an Identifier, an Iri, an Integer or a Text
 abbrev pub IsNameText : List ℕ → Type 0
@@ -54,17 +55,72 @@ pub record ArePrintableTuples (names : List (List ℕ)) (tuples : List (List ℕ
   pub held : All (All (λ c. c < length names)) tuples
   pub few : length tuples < 2 ^ 64
 
--- two unions over readable names that have, each with its answers, one text are one list of queries so, and the answers are one list
+-- two texts that begin with the texts of unions with their answers are equal only where the unions are one list of queries so,
+-- the answers are one list, and the rest is one
 abbrev pub AnsweredTextTellsUnion : Type 0
 AnsweredTextTellsUnion =
-    (names : List (List ℕ)) (one two : List Query) (answers_one answers_two : List (List ℕ)) →
+    (names : List (List ℕ)) (one two : List Query) (answers_one answers_two : List (List ℕ)) (rest_one rest_two : List ℕ) →
     AreReadable names →
     ArePrintable names one →
     ArePrintable names two →
     ArePrintableTuples names answers_one →
     ArePrintableTuples names answers_two →
-    answered_text names one answers_one ≡ answered_text names two answers_two →
-    (map numbered_query one ≡ map numbered_query two) × (answers_one ≡ answers_two)
+    answered_text names one answers_one ++ rest_one ≡ answered_text names two answers_two ++ rest_two →
+    (map numbered_query one ≡ map numbered_query two) × (answers_one ≡ answers_two) × (rest_one ≡ rest_two)
+
+-- ---- cuts
+
+-- each predicate and constant of each row has a name
+pub record ArePrintableRows (names : List (List ℕ)) (rows : List Row) : Type 0 where
+  pub each : All (λ (row : Row). IsPrintable names row.query) rows
+
+-- a row whose variables have the numbers that are printed
+abbrev pub numbered_row : Row → Row
+numbered_row row = record row { query = numbered_query row.query }
+
+-- two texts that begin with the text of a cut at a budget tell the budget, the rows, live or dead, the core that is left, and
+-- the rest
+abbrev pub RowsCutTextTellsRows : Type 0
+RowsCutTextTellsRows =
+    (names : List (List ℕ)) (budget_one budget_two : ℕ) (one two : List Row) (left_one left_two : Query) (rest_one rest_two : List ℕ) →
+    AreReadable names →
+    budget_one < 2 ^ 64 →
+    budget_two < 2 ^ 64 →
+    ArePrintableRows names one →
+    ArePrintableRows names two →
+    IsPrintable names left_one →
+    IsPrintable names left_two →
+    rows_cut_text names budget_one one left_one ++ rest_one ≡ rows_cut_text names budget_two two left_two ++ rest_two →
+    (budget_one ≡ budget_two)
+    × (map numbered_row one ≡ map numbered_row two)
+    × (numbered_query left_one ≡ numbered_query left_two)
+    × (rest_one ≡ rest_two)
+
+-- the bytes begin as the line of a row does, live or dead
+abbrev pub BeginsARow : List ℕ → Type 0
+BeginsARow bytes = (rest : List ℕ) × ((bytes ≡ codes "?" ++ rest) ⊎ (bytes ≡ codes "% dead " ++ rest))
+
+-- the same of a cut at a rewriting that is too wide: the row and the rule, the rows, and the rest, which begins no row
+abbrev pub WideCutTextTellsRows : Type 0
+WideCutTextTellsRows =
+    (names : List (List ℕ)) (row_one rule_one row_two rule_two : ℕ) (one two : List Row) (rest_one rest_two : List ℕ) →
+    AreReadable names →
+    (row_one < 2 ^ 64) × (rule_one < 2 ^ 64) →
+    (row_two < 2 ^ 64) × (rule_two < 2 ^ 64) →
+    ArePrintableRows names one →
+    ArePrintableRows names two →
+    ¬ BeginsARow rest_one →
+    ¬ BeginsARow rest_two →
+    wide_cut_text names row_one rule_one one ++ rest_one ≡ wide_cut_text names row_two rule_two two ++ rest_two →
+    (row_one ≡ row_two) × (rule_one ≡ rule_two) × (map numbered_row one ≡ map numbered_row two) × (rest_one ≡ rest_two)
+
+-- no text begins both as a finished one and as a cut one, or as one of either cut
+abbrev pub TextsDiffer : Type 0
+TextsDiffer =
+    (names : List (List ℕ)) (union : List Query) (budget row rule : ℕ) (rows others : List Row) (left : Query) (rest other : List ℕ) →
+    (finished_text names union ++ rest ≢ rows_cut_text names budget rows left ++ other)
+    × (finished_text names union ++ rest ≢ wide_cut_text names row rule rows ++ other)
+    × (rows_cut_text names budget rows left ++ rest ≢ wide_cut_text names row rule others ++ other)
 
 -- the names of what files stand for are readable
 abbrev pub InputNamesAreReadable : Type 0

@@ -1,5 +1,5 @@
 //! Laws of the texts, each the contract of a function that does nothing.
-ghost use Rattle.ucq_print.specs.Laws.{AnsweredTextTellsUnion, BeginningTellsUnion, FinishedTextTellsUnion, InputNamesAreHeld, InputNamesAreReadable, MadeNamesAreHeld, StoredArePrintable};
+ghost use Rattle.ucq_print.specs.Laws.{AnsweredTextTellsUnion, BeginningTellsUnion, FinishedTextTellsUnion, InputNamesAreHeld, InputNamesAreReadable, MadeNamesAreHeld, RowsCutTextTellsRows, StoredArePrintable, TextsDiffer, WideCutTextTellsRows};
 
 /// The finished text tells the union, up to the variables' names in each query.
 pub fn finished_text_tells_union()
@@ -11,9 +11,22 @@ pub fn beginning_tells_union()
     ensures { BeginningTellsUnion }
 {}
 
-/// The text of a union with its answers tells both.
+/// Any text that begins with the text of a union with its answers tells both, and what follows.
 pub fn answered_text_tells_union()
     ensures { AnsweredTextTellsUnion }
+{}
+
+/// Any text that begins with the text of a cut tells the cut: at a budget the budget, the rows and the core that is left, at a
+/// rewriting that is too wide its row, its rule and the rows, up to the variables' names in each query; and what follows. After
+/// a wide cut what follows must not begin as the line of a row does, for no line says how many rows there are.
+pub fn cut_text_tells_rows()
+    ensures rows { RowsCutTextTellsRows }
+    ensures wide { WideCutTextTellsRows }
+{}
+
+/// How a text begins tells whether it is a finished one, a cut at a budget, or a wide cut.
+pub fn texts_differ()
+    ensures { TextsDiffer }
 {}
 
 /// The names of what files stand for are such that the finished text tells the union.

@@ -10,8 +10,6 @@ mod finished;
 pub mod laws;
 mod queries;
 mod refusals;
-#[cfg(test)]
-mod tests;
 
 pub use answers::{answer_line, answer_line_count, summary_line, summary_line_count};
 pub use cuts::{cut_line, cut_line_count};

@@ -1,26 +1,32 @@
 -- Finished runs over the same files print one union, up to renaming.
-use Rattle.std.proofs.Common.{◌≡◌, ◌∙◌, ℕ, List, [], ◌++◌, map, Bool, true, false, inl, inr, sym, ap, subst, arith}
+use Rattle.std.proofs.Common.{◌≡◌, ◌∙◌, ℕ, List, [], ◌++◌, length, map, All, Bool, true, false, inl, inr, sym, ap, subst, arith}
 use Rattle.std.specs.Prelude.{Option, Some, IfSome}
 use Rattle.std.proofs.lemmas.List.{append_cancel_left, append-nil}
-use Rattle.ucq_terms.specs.Syntax.{Query}
+use Rattle.ucq_terms.specs.Syntax.{HasEachOnce, Query}
 use Rattle.ucq_terms.specs.Numbering.{numbered_query}
 use Rattle.ucq_terms.specs.Union.{IsExact}
 use Rattle.ucq_chase.proofs.Kept.{numbering_keeps_exact}
 use Rattle.ucq_chase.proofs.Unions.{exact_is_unique}
-use Rattle.ucq_reader.specs.Input.{InputValue, IsInput}
+use Rattle.ucq_reader.specs.Input.{InputValue, IsInput, IsNumbered}
+use Rattle.ucq_reader.specs.Made.{made}
 use Rattle.ucq_print.specs.Laws.{AreReadable, ArePrintable, ArePrintableTuples}
-use Rattle.ucq_print.specs.Texts.{lines_text, answer_lines, answered_text, finished_text}
+use Rattle.ucq_print.specs.Texts.{lines_text, answer_lines, answered_text, atom_count, finished_text, summary_text}
 use Rattle.ucq_print.proofs.InputNames.{input_names}
 use Rattle.ucq_print.proofs.Unions.{answered_shape, answered_tells, beginning_apart}
 use Rattle.ucq_words.specs.Settings.{JobValue, files, make, SettingsValue, OneSettings}
 use Rattle.ucq_run.specs.declared.outcome.Outcome.{Outcome}
 use Rattle.ucq_run.specs.declared.outcome.Outcome.TheVariants.{Finished, Cut, NoMemory, BadWords, ReadFault, TooLong, Refused, WriteFault}
 use Rattle.ucq_run.specs.Outcomes.{status_of}
-use Rattle.ucq_run.specs.Inputs.{Call, IsAsked, job_form, problem_of}
-use Rattle.ucq_run.specs.Output.{AreChaseAnswers, SinkChange, TookAll, Question, question_of, IsPrintedIn, IsFinishedText, PrintsAsked, Prints}
-use Rattle.ucq_run.specs.Run.{TellsFiles}
-use Rattle.ucq_run.specs.Laws.{BeginsWithUnion, IsFinishedRun, FinishedRunPrintsUnion, PrintedUnionIsExact, FinishedRunsAgree, PrintedAnswersAreExact}
-use Rattle.ucq_run.proofs.OneProblem.{names_of_files, exact_of_files}
+use Rattle.ucq_run.specs.Inputs.{Call, IsAsked, IsInputOf, job_form, problem_of}
+use Rattle.ucq_run.specs.Finished.{AreChaseAnswers, Question, question_of, IsPrintedIn, IsFinishedText}
+use Rattle.ucq_outside.specs.Taken.{SinkChange, TookAll}
+use Rattle.ucq_run.specs.Printed.{PrintsAsked, Prints}
+use Rattle.ucq_run.specs.Run.{HoldsFiles}
+use Rattle.ucq_run.specs.Laws.{AskForMade, BeginsWithUnion, IsFinishedRun, FinishedRunPrintsUnion, PrintedUnionIsExact, FinishedRunsAgree, PrintedAnswersAreExact, MadeRunsAgree}
+use Rattle.ucq_run.proofs.Sections.{finished_section}
+use Rattle.ucq_run.proofs.OneProblem.{exact_of_numbered, names_of_files, exact_of_files, answers_of_files}
+use Rattle.ucq_run.proofs.OneSize.{one_size, one_atom_count}
+use Rattle.ucq_run.proofs.Unknowns.{answers_move, one_answers}
 use Rattle.ucq_run.proofs.Decided.{asked_told}
 
 -- status 0 is that of a finished run alone
@@ -55,7 +61,7 @@ record HasAsked (call : Call) (text : List ℕ) : Type 0 where
 has_asked : (call : Call) (text : List ℕ) → IsFinishedRun call text → HasAsked call text
 has_asked call text r =
     let p : PrintsAsked call r.out Finished = asked_of call r.out r.run.outcome r.run.status r.run.prints in
-    let (taken, finished, took) = p.prints in
+    let (taken, finished, took) = finished_section (question_of p.settings p.input) r.out p.prints in
     record {
       settings = p.settings;
       input = p.input;
@@ -71,7 +77,7 @@ begins_so true (files given) names q union text e readable (tuples, are, held, i
 begins_so false (files given) names q union text e readable is = ([], is ∙ sym (append-nil (finished_text q.names union)))
 
 -- the job that is asked is that of the files that are told
-job_named : OneSettings → (call : Call) (settings : SettingsValue) (input : InputValue) (texts : List (List ℕ)) → IsAsked call settings input → (told : TellsFiles call texts) →
+job_named : OneSettings → (call : Call) (settings : SettingsValue) (input : InputValue) (texts : List (List ℕ)) → IsAsked call settings input → (told : HoldsFiles call texts) →
     settings.job ≡ files told.names
 job_named one call settings input texts asked told =
     ap (λ (s : SettingsValue). s.job) (one call.words settings told.named.settings asked.stand told.named.stand) ∙ told.named.job
@@ -83,7 +89,7 @@ record HasPrinted (input : InputValue) (text : List ℕ) : Type 0 where
   exact : IsExact (problem_of input) union
 
 module _ (one : OneSettings) where
-  has_printed : (call : Call) (texts : List (List ℕ)) (input : InputValue) (text : List ℕ) → TellsFiles call texts → IsInput texts input → IsFinishedRun call text →
+  has_printed : (call : Call) (texts : List (List ℕ)) (input : InputValue) (text : List ℕ) → HoldsFiles call texts → IsInput texts input → IsFinishedRun call text →
       HasPrinted input text
   has_printed call texts input text told is run =
       let a : HasAsked call text = has_asked call text run in
@@ -133,14 +139,72 @@ answers_read false (files named) given q union other tuples text e readable h k 
     absurd (some_answers q.names tuples begins.rest)
 
 pub printed_answers_are_exact : OneSettings → PrintedAnswersAreExact
-printed_answers_are_exact one call texts text told run =
+printed_answers_are_exact one call texts input text union tuples told is run printable printable_tuples begins =
     let a : HasAsked call text = has_asked call text run in
     let q : Question = question_of a.settings a.input in
     let here : IsInput texts a.input = (asked_told one call a.settings a.input texts a.asked told).1 in
-    let job : a.settings.job ≡ files told.names = job_named one call a.settings a.input texts a.asked told in (
-      a.input,
-      here,
-      λ union tuples printable printable_tuples is.
-          let read = answers_read a.settings.answers a.settings.job told.names q a.finished.union union tuples text job (input_names texts a.input here) a.finished.printable printable printable_tuples a.finished.printed is in
-          (numbering_keeps_exact (problem_of a.input) a.finished.union union read.0 a.finished.exact, read.1),
-    )
+    let names : input.names ≡ a.input.names = names_of_files texts input a.input is here in
+    let job : a.settings.job ≡ files told.names = job_named one call a.settings a.input texts a.asked told in
+    let read =
+    answers_read a.settings.answers a.settings.job told.names q a.finished.union union tuples text job (input_names texts a.input here) a.finished.printable
+    (subst (λ (ns : List (List ℕ)). ArePrintable ns union) names printable)
+    (subst (λ (ns : List (List ℕ)). ArePrintableTuples ns tuples) names printable_tuples)
+    a.finished.printed
+    (subst (λ (ns : List (List ℕ)). text ≡ answered_text ns union tuples) names begins) in
+    let exact : IsExact (problem_of a.input) union = numbering_keeps_exact (problem_of a.input) a.finished.union union read.0 a.finished.exact in
+    let exact_here : IsExact (problem_of input) union = exact_of_files texts a.input input union here is exact in
+    (exact_here, answers_of_files texts a.input input union tuples here is exact exact_here read.1)
+
+-- ---- made inputs
+
+-- what a finished run on a made input prints
+record HasCounted (number : ℕ) (text : List ℕ) : Type 0 where
+  input : InputValue
+  numbered : IsNumbered (made number) input
+  union : List Query
+  exact : IsExact (problem_of input) union
+  once : All (λ (member : Query). HasEachOnce member.atoms) union
+  tuples : List (List ℕ)
+  answers : AreChaseAnswers input.names (problem_of input) input.facts tuples
+  is : text ≡ summary_text (length union) (atom_count union) (length tuples)
+
+counted_so : (answers : Bool) (job : JobValue) (number : ℕ) (held : List ℕ → Option (List ℕ)) (input : InputValue) (budget : ℕ) (text : List ℕ) → job ≡ make number →
+    IsInputOf held job input →
+    IsFinishedText (record { form = job_form answers job; names = input.names; problem = problem_of input; facts = input.facts; budget = budget }) text →
+    HasCounted number text
+counted_so answers (files names) number held input budget text e has finished = absurd cc
+counted_so answers (make other) number held input budget text e has finished =
+    let same : other ≡ number = cc in
+    let (once, (tuples, are, is)) = finished.printed in
+    record {
+      input = input;
+      numbered = subst (λ (n : ℕ). IsNumbered (made n) input) same has;
+      union = finished.union;
+      exact = finished.exact;
+      once = once;
+      tuples = tuples;
+      answers = are;
+      is = is;
+    }
+
+has_counted : OneSettings → (call : Call) (number : ℕ) (text : List ℕ) → AskForMade call.words number → IsFinishedRun call text → HasCounted number text
+has_counted one call number text asks run =
+    let a : HasAsked call text = has_asked call text run in
+    let job : a.settings.job ≡ make number = ap (λ (s : SettingsValue). s.job) (one call.words a.settings asks.settings a.asked.stand asks.stand) ∙ asks.job in
+    counted_so a.settings.answers a.settings.job number call.held a.input a.settings.budget text job a.asked.has a.finished
+
+pub made_runs_agree : OneSettings → MadeRunsAgree
+made_runs_agree one call other number text text_other asks asks_other run run_other =
+    let a : HasCounted number text = has_counted one call number text asks run in
+    let b : HasCounted number text_other = has_counted one other number text_other asks_other run_other in
+    let exact : IsExact (problem_of b.input) a.union = exact_of_numbered (made number) a.input b.input a.union a.numbered b.numbered a.exact in
+    let moved : AreChaseAnswers b.input.names (problem_of b.input) b.input.facts a.tuples =
+    answers_move (made number) a.input b.input (problem_of a.input) (problem_of b.input) a.union a.tuples a.numbered b.numbered a.exact exact a.answers in
+    let size : length a.union ≡ length b.union = one_size (problem_of b.input) a.union b.union exact b.exact in
+    let atoms : atom_count a.union ≡ atom_count b.union = one_atom_count (problem_of b.input) a.union b.union exact b.exact a.once b.once in
+    let tuples : a.tuples ≡ b.tuples = one_answers b.input.names (problem_of b.input) b.input.facts a.tuples b.tuples moved b.answers in
+    a.is ∙
+    (ap (λ (n : ℕ). summary_text n (atom_count a.union) (length a.tuples)) size ∙
+    (ap (λ (n : ℕ). summary_text (length b.union) n (length a.tuples)) atoms ∙
+    (ap (λ (ts : List (List ℕ)). summary_text (length b.union) (atom_count b.union) (length ts)) tuples ∙
+    sym b.is)))

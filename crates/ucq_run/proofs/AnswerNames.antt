@@ -14,7 +14,7 @@ use Rattle.ucq_chase.specs.Names.{IsHeldTerm, IsHeldAtom, AreHeldAtoms, IsHeldQu
 use Rattle.ucq_chase.proofs.Steps.{OccursIn-known}
 use Rattle.ucq_eval.specs.Answers.{constants}
 use Rattle.ucq_print.specs.Laws.{ArePrintable, ArePrintableTuples, IsPrintable}
-use Rattle.ucq_run.specs.Output.{AreChaseAnswers}
+use Rattle.ucq_run.specs.Finished.{AreChaseAnswers}
 
 -- a term of held atoms is held
 occurs_held : (count : ℕ) (atoms : List Atom) (t : Term) → AreHeldAtoms count atoms → OccursIn atoms t → IsHeldTerm count t

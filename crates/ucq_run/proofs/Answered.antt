@@ -8,7 +8,10 @@ use Rattle.ucq_run.specs.declared.outcome.Outcome.TheVariants.{Finished, Cut, No
 use Rattle.ucq_run.specs.Inputs.{Call}
 use Rattle.ucq_run.specs.Causes.{IsCause}
 use Rattle.ucq_run.specs.Asked.{Asks, question_in}
-use Rattle.ucq_run.specs.Output.{Question, SinkChange, change_of, TookAll, IsEarly, PrintsFor, Prints}
+use Rattle.ucq_run.specs.Finished.{Question, question_of}
+use Rattle.ucq_run.proofs.Sections.{section_prints}
+use Rattle.ucq_outside.specs.Taken.{SinkChange, change_of, TookAll}
+use Rattle.ucq_run.specs.Printed.{IsEarly, PrintsFor, Prints}
 
 -- an outcome that prints has no other cause
 pub printed_has_cause : (call : Call) (q : Question) (out : SinkChange) (o : Outcome) → PrintsFor q out o → IsCause call o
@@ -23,7 +26,7 @@ printed_has_cause call q out (Refused fault) h = absurd h
 
 pub printed : (call : Call) (a : Asked) (out : SinkChange) (o : Outcome) → Asks call a → PrintsFor (question_in a) out o → Prints call out o
 printed call a out o asks prints =
-    inl (record { settings = asks.settings; input = asks.input; asked = asks.asked; prints = subst (λ (q : Question). PrintsFor q out o) asks.question prints })
+    inl (record { settings = asks.settings; input = asks.input; asked = asks.asked; prints = section_prints (question_of asks.settings asks.input) out o (subst (λ (q : Question). PrintsFor q out o) asks.question prints) })
 
 -- a sink that was not touched took nothing
 took_nothing : (taken : Option (List ℕ)) (faults : ℕ) → TookAll (change_of taken taken faults faults) []

@@ -1,8 +1,7 @@
 -- What is read and printed decides on the status.
-use Rattle.std.proofs.Common.{◌≡◌, ◌≢◌, ◌<◌, ◌≤◌, ◌+◌, ◌^◌, ◌⊎◌, ℕ, zero, suc, List, [], ◌∷◌, ◌++◌, length, take, inl, inr, refl, sym, ap, ap₂, subst, ◌∙◌, arith}
-use Rattle.std.proofs.Math.Seq.{take-length}
+use Rattle.std.proofs.Common.{◌≡◌, ◌≢◌, ◌<◌, ◌≤◌, ◌+◌, ◌^◌, ◌⊎◌, ℕ, zero, suc, List, [], ◌∷◌, length, take, inl, inr, refl, sym, ap, ap₂, subst, ◌∙◌, arith}
 use Rattle.std.proofs.lemmas.List.Sums.{sum_by-cons}
-use Rattle.std.specs.Prelude.{Option, Some, None, IfSome, Ok, Err, slice_get}
+use Rattle.std.specs.Prelude.{Option, Some, None, IfSome, Ok, Err, slice_get, All}
 use Rattle.std.specs.List.{AllZip}
 use Rattle.ucq_outside.specs.Causes.{Rose}
 use Rattle.ucq_reader.specs.declared.ReadFault.{ReadFault}
@@ -17,8 +16,12 @@ use Rattle.ucq_run.specs.declared.outcome.Outcome.TheVariants.{Finished, Cut, No
 use Rattle.ucq_run.specs.Outcomes.{status_of}
 use Rattle.ucq_run.specs.Inputs.{Call, AreRead, IsAsked, IsInputOf, IsReadInput, problem_of}
 use Rattle.ucq_run.specs.Causes.{AreRefusedFor, IsCause, IsTooLong, NameFiles}
-use Rattle.ucq_run.specs.Output.{SinkChange, TookAll, TookPrefix, question_of, PrintsAsked, PrintsFor, Prints}
-use Rattle.ucq_run.specs.Run.{AreReadable, AreRefused, IsAnswered, IsDecided, IsReported, IsRun, TellsFiles, HasEnough, IsFinishedOrWanting, IsFullRun}
+use Rattle.ucq_outside.specs.Taken.{SinkChange}
+use Rattle.ucq_run.specs.Finished.{question_of}
+use Rattle.ucq_run.specs.Printed.{PrintsAsked, Prints}
+use Rattle.ucq_run.specs.Run.{AreReadable, AreRefused, IsAnswered, IsDecided, IsReported, IsRun, HoldsFiles, TellsFiles, HasEnough, IsFinishedOrWanting, IsFullRun}
+use Rattle.ucq_run.specs.Parts.{section, parts_of, HasEnoughFor}
+use Rattle.ucq_run.proofs.Sections.{cut_section, parts_some}
 use Rattle.ucq_run.proofs.OneProblem.{enough_of_files, enough_of_numbered}
 
 -- files that stand for an input aren't refused
@@ -98,31 +101,31 @@ module _ (one : OneSettings) where
       absurd cc
 
   -- the texts that were read are those that are told
-  read_are_told : (call : Call) (names xs texts : List (List ℕ)) → NameFiles call.words names → AreRead call.held names xs → TellsFiles call texts → xs ≡ texts
+  read_are_told : (call : Call) (names xs texts : List (List ℕ)) → NameFiles call.words names → AreRead call.held names xs → HoldsFiles call texts → xs ≡ texts
   read_are_told call names xs texts named read told =
       let same : names ≡ told.names = one_names call.words names told.names named told.named in
       all_told call.held told.names xs texts (subst (λ (ns : List (List ℕ)). AllZip (λ (name text : List ℕ). IfSome (call.held name) (λ file. text ≡ file)) ns xs) same read.told) told.held
 
   -- what was asked of files that are told is what they stand for
-  pub asked_told : (call : Call) (settings : SettingsValue) (input : InputValue) (texts : List (List ℕ)) → IsAsked call settings input → TellsFiles call texts → (byte_count texts ≤ 2 ^ 26) × IsInput texts input
+  pub asked_told : (call : Call) (settings : SettingsValue) (input : InputValue) (texts : List (List ℕ)) → IsAsked call settings input → HoldsFiles call texts → (byte_count texts ≤ 2 ^ 26) × IsInput texts input
   asked_told call settings input texts asked told =
       let read = asked_files call settings input told.names asked told.named in
       let same : read.texts ≡ texts = read_are_told call told.names read.texts texts told.named read.read told in
       (subst (λ (ts : List (List ℕ)). byte_count ts ≤ 2 ^ 26) same read.read.short, subst (λ (ts : List (List ℕ)). IsInput ts input) same read.stands_for)
 
-  refused_told : (call : Call) (names texts : List (List ℕ)) (fault : ReadFault) → NameFiles call.words names → AreRefusedFor call.held names fault → TellsFiles call texts → (byte_count texts ≤ 2 ^ 26) × IsRefused texts fault
+  refused_told : (call : Call) (names texts : List (List ℕ)) (fault : ReadFault) → NameFiles call.words names → AreRefusedFor call.held names fault → HoldsFiles call texts → (byte_count texts ≤ 2 ^ 26) × IsRefused texts fault
   refused_told call names texts fault named refused told =
       let same : refused.texts ≡ texts = read_are_told call names refused.texts texts named refused.read told in
       (subst (λ (ts : List (List ℕ)). byte_count ts ≤ 2 ^ 26) same refused.read.short, subst (λ (ts : List (List ℕ)). IsRefused ts fault) same refused.refused)
 
-  long_told : (call : Call) (names texts : List (List ℕ)) (file : ℕ) → NameFiles call.words names → IsTooLong call.held names file → TellsFiles call texts → 2 ^ 26 < byte_count texts
+  long_told : (call : Call) (names texts : List (List ℕ)) (file : ℕ) → NameFiles call.words names → IsTooLong call.held names file → HoldsFiles call texts → 2 ^ 26 < byte_count texts
   long_told call names texts file named long told =
       let same : told.names ≡ names = one_names call.words told.names names told.named named in
       let rest = long_together call.held 0 (2 ^ 26) names long.before texts file long.name long.read.told (subst (λ (ns : List (List ℕ)). AllZip (λ (name text : List ℕ). call.held name ≡ Some text) ns texts) same told.held) long.named (from_none (call.held long.name) (byte_count long.before) long.long) in
       omega arith
 
   -- an input that was asked for isn't refused
-  asked_or_refused : (call : Call) (out : SinkChange) (o : Outcome) (texts : List (List ℕ)) → PrintsAsked call out o → TellsFiles call texts → AreRefused texts → ⊥
+  asked_or_refused : (call : Call) (out : SinkChange) (o : Outcome) (texts : List (List ℕ)) → PrintsAsked call out o → HoldsFiles call texts → AreRefused texts → ⊥
   asked_or_refused call out o texts p told refused =
       let read = asked_told call p.settings p.input texts p.asked told in
       elim refused [
@@ -161,16 +164,16 @@ module _ (one : OneSettings) where
   refused_files call NoMemory texts told e cause = absurd (omega arith)
   refused_files call BadWords texts told e cause = absurd (omega arith)
   refused_files call (ReadFaultAt number at) texts told e cause = absurd (omega arith)
-  refused_files call (TooLong file) texts told e cause = inl (long_told call cause.0 texts file cause.1 cause.2 told)
-  refused_files call (Refused fault) texts told e cause = let r = refused_told call cause.0 texts fault cause.1 cause.2 told in inr (r.0, (fault, r.1))
+  refused_files call (TooLong file) texts told e cause = inl (long_told call cause.0 texts file cause.1 cause.2 told.files)
+  refused_files call (Refused fault) texts told e cause = let r = refused_told call cause.0 texts fault cause.1 cause.2 told.files in inr (r.0, (fault, r.1))
   refused_files call WriteFault texts told e cause = absurd (omega arith)
 
   only_refused : (call : Call) (out : SinkChange) (o : Outcome) (texts : List (List ℕ)) → TellsFiles call texts → status_of o ≢ 1 → IsCause call o → Prints call out o → AreRefused texts → status_of o ≡ 4
-  only_refused call out o texts told other cause (inl p) refused = absurd (asked_or_refused call out o texts p told refused)
+  only_refused call out o texts told other cause (inl p) refused = absurd (asked_or_refused call out o texts p told.files refused)
   only_refused call out Finished texts told other cause (inr h) refused = absurd h.0
   only_refused call out Cut texts told other cause (inr h) refused = absurd h.0
   only_refused call out NoMemory texts told other cause (inr h) refused = absurd (other refl)
-  only_refused call out BadWords texts told other cause (inr h) refused = absurd (cause told.named.settings told.named.stand)
+  only_refused call out BadWords texts told other cause (inr h) refused = absurd (cause told.files.named.settings told.files.named.stand)
   only_refused call out (ReadFaultAt number at) texts told other cause (inr h) refused = absurd (told.sure cause.2.0)
   only_refused call out (TooLong number) texts told other cause (inr h) refused = refl
   only_refused call out (Refused fault) texts told other cause (inr h) refused = refl
@@ -189,14 +192,14 @@ module _ (one : OneSettings) where
   only_answered call out Finished texts told sure readable cause prints = inl (inl refl)
   only_answered call out Cut texts told sure readable cause prints = inl (inr refl)
   only_answered call out NoMemory texts told sure readable cause prints = inr refl
-  only_answered call out BadWords texts told sure readable cause prints = absurd (cause told.named.settings told.named.stand)
+  only_answered call out BadWords texts told sure readable cause prints = absurd (cause told.files.named.settings told.files.named.stand)
   only_answered call out (ReadFaultAt number at) texts told sure readable cause prints = absurd (told.sure cause.2.0)
   only_answered call out (TooLong file) texts told sure readable cause prints =
-      let long = long_told call cause.0 texts file cause.1 cause.2 told in
+      let long = long_told call cause.0 texts file cause.1 cause.2 told.files in
       let short = readable.0 in
       absurd (omega arith)
   only_answered call out (Refused fault) texts told sure readable cause prints =
-      let r = refused_told call cause.0 texts fault cause.1 cause.2 told in
+      let r = refused_told call cause.0 texts fault cause.1 cause.2 told.files in
       absurd (input_or_refusal texts readable.1.0 fault readable.1.1 r.1)
   only_answered call out WriteFault texts told sure readable cause prints = absurd (sure (write_fault call out prints))
 
@@ -216,7 +219,7 @@ module _ (one : OneSettings) where
 
   -- a cut comes only where the budget isn't enough for what was asked
   cut_is_short : (call : Call) (out : SinkChange) (o : Outcome) → status_of o ≡ 5 → Prints call out o → (p : PrintsAsked call out o) × ¬ IsEnough (problem_of p.input) p.settings.budget
-  cut_is_short call out Cut e (inl p) = (p, p.prints.1.short)
+  cut_is_short call out Cut e (inl p) = (p, cut_section (question_of p.settings p.input) out p.prints)
   cut_is_short call out Cut e (inr h) = absurd h.0
   cut_is_short call out Finished e prints = absurd (omega arith)
   cut_is_short call out NoMemory e prints = absurd (omega arith)
@@ -225,6 +228,9 @@ module _ (one : OneSettings) where
   cut_is_short call out (TooLong file) e prints = absurd (omega arith)
   cut_is_short call out (Refused fault) e prints = absurd (omega arith)
   cut_is_short call out WriteFault e prints = absurd (omega arith)
+
+  enough_section : (settings : SettingsValue) (input : InputValue) → All HasEnoughFor (parts_of settings input) → IsEnough (problem_of input) settings.budget
+  enough_section settings input enough = enough 0 (section (question_of settings input)) (omega arith)
 
   not_cut : (status : ℕ) → (status ≡ 5 → ⊥) → IsAnswered status → IsFinishedOrWanting status
   not_cut status other (inl (inl e)) = inl e
@@ -238,8 +244,8 @@ module _ (one : OneSettings) where
       not_cut (status_of o) (λ e.
       let (p, isnt) = cut_is_short call out o e prints in
       let same : settings ≡ p.settings = one call.words settings p.settings enough.stand p.asked.stand in
-      isnt (enough_of_files texts input p.input p.settings.budget is (asked_told call p.settings p.input texts p.asked told).1
-      (subst (λ (s : SettingsValue). IsEnough (problem_of input) s.budget) same enough.enough)))
+      isnt (enough_of_files texts input p.input p.settings.budget is (asked_told call p.settings p.input texts p.asked told.files).1
+      (subst (λ (s : SettingsValue). IsEnough (problem_of input) s.budget) same (enough_section settings input enough.enough))))
       (only_answered call out o texts told sure (short, (input, is)) cause prints)
 
   only_finished_made : (call : Call) (out : SinkChange) (o : Outcome) (settings : SettingsValue) (number : ℕ) (input : InputValue) → settings.job ≡ make number →
@@ -252,7 +258,7 @@ module _ (one : OneSettings) where
       let here : IsNumbered (made number) input = subst (λ (j : JobValue). IsInputOf call.held j input) job is in
       let asked : IsNumbered (made number) p.input = subst (λ (j : JobValue). IsInputOf call.held j p.input) (sym (ap (λ (s : SettingsValue). s.job) same) ∙ job) p.asked.has in
       isnt (enough_of_numbered (made number) input p.input p.settings.budget here asked
-      (subst (λ (s : SettingsValue). IsEnough (problem_of input) s.budget) same enough.enough)))
+      (subst (λ (s : SettingsValue). IsEnough (problem_of input) s.budget) same (enough_section settings input enough.enough))))
       (only_made call out o settings number enough.stand job sure cause prints)
 
   -- A run's status is decided so.
@@ -268,28 +274,9 @@ module _ (one : OneSettings) where
 
 -- ---- what is reported
 
--- a text that was taken whole is a prefix of it
-TookPrefix-whole : (out : SinkChange) (text : List ℕ) → TookAll out text → TookPrefix out text
-TookPrefix-whole out text h = go out.taken_after h
-  where
-    go : (after : Option (List ℕ)) → IfSome after (λ now. (before : List ℕ) × (out.taken_before ≡ Some before) × (now ≡ before ++ text)) →
-        IfSome after (λ now. (before : List ℕ) × (count : ℕ) × (out.taken_before ≡ Some before) × (now ≡ before ++ take count text))
-    go None h = tt
-    go (Some now) h = (h.0, length text, h.1, h.2 ∙ ap (λ t. h.0 ++ t) (sym (take-length text)))
-
 -- whatever was printed may be printed where memory is wanting
 asked_some : (call : Call) (out : SinkChange) (o : Outcome) → PrintsAsked call out o → PrintsAsked call out NoMemory
-asked_some call out o p = record { settings = p.settings; input = p.input; asked = p.asked; prints = go o p.prints }
-  where
-    go : (o : Outcome) → PrintsFor (question_of p.settings p.input) out o → PrintsFor (question_of p.settings p.input) out NoMemory
-    go Finished h = inr (h.0, inl h.1, TookPrefix-whole out h.0 h.2)
-    go Cut h = inr (h.0, inr h.1, TookPrefix-whole out h.0 h.2)
-    go NoMemory h = h
-    go BadWords h = absurd h
-    go (ReadFaultAt file at) h = absurd h
-    go (TooLong file) h = absurd h
-    go (Refused fault) h = absurd h
-    go WriteFault h = inr h.1
+asked_some call out o p = record { settings = p.settings; input = p.input; asked = p.asked; prints = parts_some (parts_of p.settings p.input) out o p.prints }
 
 prints_some : (call : Call) (out : SinkChange) (o : Outcome) → Prints call out o → Prints call out NoMemory
 prints_some call out o (inl p) = inl (asked_some call out o p)

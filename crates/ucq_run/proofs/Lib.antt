@@ -1,6 +1,9 @@
 mod Told
 mod Reported
+mod Sections
 mod Printing
+mod Unknowns
+mod OneSize
 mod OneProblem
 mod Asking
 mod Answered

@@ -14,6 +14,8 @@ use Rattle.ucq_reader.specs.Meaning.{Meant, SymbolQuery}
 use Rattle.ucq_reader.specs.Input.{InputValue, IsInput, IsNumbered, IsQueryOf, rule_value}
 use Rattle.ucq_reader.proofs.Refusals.{meaning_unique}
 use Rattle.ucq_run.specs.Inputs.{problem_of}
+use Rattle.ucq_run.specs.Finished.{AreChaseAnswers}
+use Rattle.ucq_run.proofs.Unknowns.{answers_move}
 
 -- a query whose atoms are among those of the other covers it
 covers_more : (a b : Query) → a.answers ≡ b.answers → IsSubset a.atoms b.atoms → Covers a b
@@ -80,7 +82,7 @@ enough_of_numbered meant a b budget h k enough =
     enough_of_same b.rules a.query b.query budget query (subst (λ (rs : List Rule). IsEnough (problem_with rs a.query) budget) rules enough)
 
 -- an exact union of the one problem is one of the other
-exact_of_numbered : (meant : Meant) (a b : InputValue) (union : List Query) → IsNumbered meant a → IsNumbered meant b → IsExact (problem_of a) union → IsExact (problem_of b) union
+pub exact_of_numbered : (meant : Meant) (a b : InputValue) (union : List Query) → IsNumbered meant a → IsNumbered meant b → IsExact (problem_of a) union → IsExact (problem_of b) union
 exact_of_numbered meant a b union h k exact =
     let names : a.names ≡ b.names = h.names ∙ sym k.names in
     let rules : a.rules ≡ b.rules = h.rules ∙ (ap (λ ns. map (rule_value ns) meant.rules) names ∙ sym k.rules) in
@@ -110,3 +112,10 @@ pub exact_of_files : (texts : List (List ℕ)) (a b : InputValue) (union : List 
 exact_of_files texts a b union h k exact =
     let same : h.0 ≡ k.0 = one_meant h.0 k.0 (meaning_unique texts (stands_for h.0) (stands_for k.0) h.1 k.1) in
     exact_of_numbered k.0 a b union (subst (λ (m : Meant). IsNumbered m a) same h.2) k.2 exact
+
+-- and the same answers, whatever the numbers of their unknown values
+pub answers_of_files : (texts : List (List ℕ)) (a b : InputValue) (union : List Query) (tuples : List (List ℕ)) → IsInput texts a → IsInput texts b →
+    IsExact (problem_of a) union → IsExact (problem_of b) union → AreChaseAnswers a.names (problem_of a) a.facts tuples → AreChaseAnswers b.names (problem_of b) b.facts tuples
+answers_of_files texts a b union tuples h k of_a of_b answers =
+    let same : h.0 ≡ k.0 = one_meant h.0 k.0 (meaning_unique texts (stands_for h.0) (stands_for k.0) h.1 k.1) in
+    answers_move k.0 a b (problem_of a) (problem_of b) union tuples (subst (λ (m : Meant). IsNumbered m a) same h.2) k.2 of_a of_b answers

@@ -15,7 +15,7 @@ use Rattle.ucq_facts.specs.Facts.{DoesAdd}
 use Rattle.ucq_eval.specs.Answers.{AreAnswers, IsAnswer, constants}
 use Rattle.ucq_eval.specs.Laws.{AnswersAreChaseAnswers}
 use Rattle.ucq_print.specs.Texts.{atom_count}
-use Rattle.ucq_run.specs.Output.{AreChaseAnswers, AreFactsOf}
+use Rattle.ucq_run.specs.Finished.{AreChaseAnswers, AreFactsOf}
 
 -- ---- the same facts
 

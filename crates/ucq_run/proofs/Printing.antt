@@ -1,6 +1,6 @@
 -- What was written for a question.
-use Rattle.std.proofs.Common.{◌≡◌, ◌∙◌, ℕ, ◌≤◌, List, length, filter, inl, inr, true, false, refl, sym, ap, subst, arith}
-use Rattle.std.proofs.lemmas.List.{length-map}
+use Rattle.std.proofs.Common.{◌≡◌, ◌∙◌, ℕ, ◌<◌, ◌≤◌, List, length, filter, inl, inr, true, false, refl, sym, ap, subst, arith}
+use Rattle.std.proofs.lemmas.List.{get_or_default, length-map}
 use Rattle.std.proofs.lemmas.List.Sums.{count_by-le-length, length-filter}
 use Rattle.std.specs.Option.{is_some}
 use Rattle.std.specs.Prelude.{◌⊎◌, Option, Some, None, IsSome, Result, Ok, Err}
@@ -11,7 +11,7 @@ use Rattle.ucq_store.specs.declared.Cut.TheVariants.{Rows, Wide}
 use Rattle.ucq_terms.proofs.Lists.{All-from_contains}
 use Rattle.ucq_chase.specs.Names.{IsHeldProblem}
 use Rattle.ucq_antichain.specs.declared.Row.{Row}
-use Rattle.ucq_antichain.specs.Rows.{live_queries}
+use Rattle.ucq_antichain.specs.Rows.{live_queries, no_row}
 use Rattle.ucq_store.specs.Store.{Store, query_of, IsCut}
 use Rattle.ucq_store.specs.Lawful.{IsLawful, IsLawfulByLevels, HasCause}
 use Rattle.ucq_store.specs.Laws.{CutListing, EnoughBudget, IsEnough}
@@ -27,13 +27,22 @@ use Rattle.ucq_run.specs.declared.outcome.Outcome.TheVariants.{Finished, Cut}
 use Rattle.ucq_run.specs.declared.writing.Unwritten.{Unwritten}
 use Rattle.ucq_run.specs.declared.writing.Unwritten.TheVariants.{Failed, Memory}
 use Rattle.ucq_run.specs.Reading.{IsWritten}
-use Rattle.ucq_run.specs.Output.{SinkChange, TookAll, Question, IsPrintedIn, IsFinishedText, ArePrintableRows, IsCutText, IsCutTextOf, IsWrittenAs, PrintsFor}
+use Rattle.ucq_outside.specs.Taken.{SinkChange, TookAll}
+use Rattle.ucq_run.specs.Finished.{Question, IsPrintedIn, IsFinishedText}
+use Rattle.ucq_print.specs.Laws.{ArePrintableRows}
+use Rattle.ucq_run.specs.Cuts.{IsCutText, IsCutTextOf}
+use Rattle.ucq_run.specs.Printed.{IsWrittenAs, PrintsFor}
 
 -- a row of a lawful store is printable where the names of the problem are held
-row_is_printable : (names : List (List ℕ)) (s : Store) → IsLawful s → IsHeldProblem (length names) s.problem → ArePrintableRows names s.rows
+row_is_printable : (names : List (List ℕ)) (s : Store) → IsLawful s → IsHeldProblem (length names) s.problem → (row : ℕ) → row < length s.rows → IsPrintable names (query_of s row)
 row_is_printable names s lawful held row l =
     stored_is_printable names (query_of s row) (lawful.rows_are_sound_cores.each row l).stored
     (listing_keeps_names (length names) s.problem s.rows held (cut_listing s lawful) row l)
+
+rows_are_printable : (names : List (List ℕ)) (s : Store) → IsLawful s → IsHeldProblem (length names) s.problem → ArePrintableRows names s.rows
+rows_are_printable names s lawful held = record {
+  each = λ row d l. subst (λ (r : Row). IsPrintable names r.query) (get_or_default s.rows row no_row d l) (row_is_printable names s lawful held row l);
+}
 
 -- and so are its live queries
 pub live_are_printable : (names : List (List ℕ)) (s : Store) → IsLawful s → IsHeldProblem (length names) s.problem → s.budget ≤ 65536 → ArePrintable names (live_queries s.rows)
@@ -68,39 +77,27 @@ cut_says : CutListing → (names : List (List ℕ)) (s : Store) → IsLawful s �
     IsCutText names s.problem s.budget (lines_text (cut_lines names s))
 cut_says listing names s lawful held cut = go s.cut cut lawful.cut_has_cause
   where
-    rows_printable : ArePrintableRows names s.rows
-    rows_printable row l = row_is_printable names s lawful held row l
-
     go : (c : Option StoreCut) → IsSome c → HasCause s c → IsCutText names s.problem s.budget (lines_text (lines_of_cut names s.budget s.rows c))
     go None some cause = absurd cc
     go (Some (Rows left)) some cause = inl (record {
       rows = s.rows;
       left = left;
       listing = listing s lawful;
-      full = cause.full;
-      sound = cause.sound_core;
-      row = cause.row;
-      row_of = cause.row_of;
-      derived = cause.derived;
-      uncovered = cause.uncovered;
-      printable = rows_printable;
+      left_by = record { full = cause.full; sound_core = cause.sound_core; row = cause.row; row_of = cause.row_of; derived = cause.derived; uncovered = cause.uncovered };
+      printable = rows_are_printable names s lawful held;
       printable_left =
           stored_is_printable names left cause.sound_core.stored
-          (derived_keeps_names (length names) s.problem.rules (query_of s cause.row) left held.rules (rows_printable cause.row cause.row_of).held cause.derived);
+          (derived_keeps_names (length names) s.problem.rules (query_of s cause.row) left held.rules (row_is_printable names s lawful held cause.row cause.row_of).held cause.derived);
       printed = refl;
     })
     go (Some (Wide row rule count)) some cause = inr (record {
       rows = s.rows;
       row = row;
       rule = rule;
-      listing = listing s lawful;
-      row_of = cause.row_of;
-      result = cause.result;
-      step = cause.step;
       width = count;
-      has_width = cause.width;
-      wide = cause.wide;
-      printable = rows_printable;
+      listing = listing s lawful;
+      wide = record { row_of = cause.row_of; wide_step = record { result = cause.result; step = cause.step; width = cause.width; wide = cause.wide } };
+      printable = rows_are_printable names s lawful held;
       printed = refl;
     })
 

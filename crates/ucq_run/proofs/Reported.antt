@@ -9,7 +9,7 @@ use Rattle.ucq_reader.specs.Outcome.{OrMemory}
 use Rattle.ucq_run.specs.declared.outcome.Outcome.{Outcome}
 use Rattle.ucq_run.specs.declared.outcome.Outcome.TheVariants.{NoMemory}
 use Rattle.ucq_run.specs.Outcomes.{outcome_line, status_of}
-use Rattle.ucq_run.specs.Output.{SinkChange, TookAll, TookLine}
+use Rattle.ucq_outside.specs.Taken.{SinkChange, TookAll, TookLine}
 use Rattle.ucq_run.specs.Run.{IsTold, IsReported}
 
 -- a sink that wasn't used took nothing

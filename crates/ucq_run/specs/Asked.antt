@@ -7,7 +7,8 @@ use Rattle.ucq_run.specs.declared.asked.Asked.{Asked}
 use Rattle.ucq_run.specs.declared.outcome.Outcome.{Outcome}
 use Rattle.ucq_run.specs.Inputs.{Call, IsAsked}
 use Rattle.ucq_run.specs.Causes.{IsCause}
-use Rattle.ucq_run.specs.Output.{Question, question_of, IsEarly}
+use Rattle.ucq_run.specs.Finished.{Question, question_of}
+use Rattle.ucq_run.specs.Printed.{IsEarly}
 
 -- what is asked, as a question
 abbrev pub question_in : Asked → Question

@@ -1,7 +1,10 @@
 pub mod Inputs
 pub mod Causes
 pub mod Reading
-pub mod Output
+pub mod Finished
+pub mod Cuts
+pub mod Parts
+pub mod Printed
 pub mod Asked
 pub mod Outcomes
 pub mod Run

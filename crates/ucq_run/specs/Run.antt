@@ -1,18 +1,19 @@
 -- What a run is.
-use Rattle.std.specs.Prelude.{◌≡◌, ◌≢◌, ◌<◌, ◌≤◌, ◌^◌, ◌⊎◌, ◌↔◌, ℕ, List, Some, Result, Ok, Err}
+use Rattle.std.specs.Prelude.{◌≡◌, ◌≢◌, ◌<◌, ◌≤◌, ◌^◌, ◌⊎◌, ◌↔◌, ℕ, List, Some, Result, Ok, Err, All}
 use Rattle.std.specs.Global.{Vec}
 use Rattle.std.specs.List.{AllZip}
 use Rattle.ucq_outside.specs.Causes.{Rose}
 use Rattle.ucq_reader.specs.declared.ReadFault.{ReadFault}
-use Rattle.ucq_store.specs.Laws.{IsEnough}
 use Rattle.ucq_reader.specs.Input.{InputValue, IsInput, IsRefused}
 use Rattle.ucq_reader.specs.Outcome.{byte_count}
 use Rattle.ucq_words.specs.Settings.{SettingsValue, StandFor, make}
 use Rattle.ucq_run.specs.declared.outcome.Outcome.{Outcome}
 use Rattle.ucq_run.specs.declared.outcome.Outcome.TheVariants.{NoMemory}
-use Rattle.ucq_run.specs.Inputs.{Call, IsInputOf, problem_of}
+use Rattle.ucq_run.specs.Inputs.{Call, IsInputOf}
+use Rattle.ucq_run.specs.Parts.{parts_of, HasEnoughFor}
 use Rattle.ucq_run.specs.Causes.{IsCause, NameFiles}
-use Rattle.ucq_run.specs.Output.{SinkChange, TookLine, Prints}
+use Rattle.ucq_outside.specs.Taken.{SinkChange, TookLine}
+use Rattle.ucq_run.specs.Printed.{Prints}
 use Rattle.ucq_run.specs.Outcomes.{outcome_line, status_of}
 
 -- The sink took the line that was made, and the answer is the status; or there was no memory for a line.
@@ -38,11 +39,15 @@ pub record IsRun (call : Call) (out err : SinkChange) (answer : ℕ) : Type 0 wh
 
 -- ---- what decides
 
--- The words name files, the shelf tells the bytes of each, and its count of faults didn't rise.
-pub record TellsFiles (call : Call) (texts : List (List ℕ)) : Type 0 where
+-- The words name files, and the shelf tells the bytes of each.
+pub record HoldsFiles (call : Call) (texts : List (List ℕ)) : Type 0 where
   pub names : List (List ℕ)
   pub named : NameFiles call.words names
   pub held : AllZip (λ (name text : List ℕ). call.held name ≡ Some text) names texts
+
+-- And its count of faults didn't rise.
+pub record TellsFiles (call : Call) (texts : List (List ℕ)) : Type 0 where
+  pub files : HoldsFiles call texts
   pub sure : ¬ Rose call.faults_before call.faults_after
 
 -- the files are too long together, or the reader refuses them
@@ -61,14 +66,14 @@ IsAnswered status = ((status ≡ 0) ⊎ (status ≡ 5)) ⊎ (status ≡ 1)
 abbrev pub IsFinishedOrWanting : ℕ → Type 0
 IsFinishedOrWanting status = (status ≡ 0) ⊎ (status ≡ 1)
 
--- The words stand for settings whose budget is enough for the problem of the input.
+-- The words stand for settings whose budget is enough for each part.
 pub record HasEnough (call : Call) (settings : SettingsValue) (input : InputValue) : Type 0 where
   pub stand : StandFor call.words settings
-  pub enough : IsEnough (problem_of input) settings.budget
+  pub enough : All HasEnoughFor (parts_of settings input)
 
 -- Up to want of memory the words decide on status 2; where the shelf tells the files and doesn't fail, their bytes decide
 -- between a refusal and an answer; and where the output doesn't fail either, files that stand for an input are answered,
--- and so is an input that is made. Where the budget is enough for the problem, the answer isn't a cut.
+-- and so is an input that is made. Where the budget is enough for each part, the answer isn't a cut.
 pub record IsDecided (call : Call) (out : SinkChange) (status : ℕ) : Type 0 where
   pub words : status ≢ 1 → (status ≡ 2) ↔ ((settings : SettingsValue) → StandFor call.words settings → ⊥)
   pub refused : (texts : List (List ℕ)) → TellsFiles call texts → status ≢ 1 → (status ≡ 4) ↔ AreRefused texts

@@ -2,7 +2,8 @@
 ghost use Rattle.std.specs.Prelude.{map, string_bytes};
 ghost use Rattle.ucq_run.specs.Causes.{IsCause};
 ghost use Rattle.ucq_run.specs.Inputs.{call_of};
-ghost use Rattle.ucq_run.specs.Output.{change_of, Prints};
+ghost use Rattle.ucq_outside.specs.Taken.{change_of};
+ghost use Rattle.ucq_run.specs.Printed.{Prints};
 
 use crate::asked::prepare;
 use crate::outcome::Outcome;

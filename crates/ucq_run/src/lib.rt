@@ -3,7 +3,7 @@
 
 ghost use Rattle.std.specs.Prelude.{map, string_bytes};
 ghost use Rattle.ucq_run.specs.Inputs.{call_of};
-ghost use Rattle.ucq_run.specs.Output.{change_of};
+ghost use Rattle.ucq_outside.specs.Taken.{change_of};
 ghost use Rattle.ucq_run.specs.Run.{IsFullRun};
 
 mod answers;

@@ -4,7 +4,7 @@ ghost use Rattle.ucq_terms.specs.Syntax.{HasEachOnce, Problem as ProblemValue};
 ghost use Rattle.ucq_terms.specs.Union.{IsExact};
 ghost use Rattle.ucq_print.specs.Texts.{atom_count};
 ghost use Rattle.ucq_run.specs.declared.form.Form.TheVariants.{Queries};
-ghost use Rattle.ucq_run.specs.Output.{AreChaseAnswers, AreFactsOf};
+ghost use Rattle.ucq_run.specs.Finished.{AreChaseAnswers, AreFactsOf};
 
 use crate::form::Form;
 use std::alloc::Global;

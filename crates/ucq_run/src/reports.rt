@@ -3,7 +3,7 @@ ghost use Rattle.std.specs.Prelude.{◌≡◌, ◌++◌, IfOk, codes, decimal, s
 ghost use Rattle.ucq_print.specs.Refusals.{refusal_line};
 ghost use Rattle.ucq_run.specs.declared.outcome.Outcome.TheVariants as outcomes;
 ghost use Rattle.ucq_run.specs.Outcomes.{outcome_line};
-ghost use Rattle.ucq_run.specs.Output.{TookLine};
+ghost use Rattle.ucq_outside.specs.Taken.{TookLine};
 ghost use Rattle.ucq_run.specs.Run.{IsReported, IsTold};
 
 use crate::outcome::Outcome;

@@ -9,7 +9,9 @@ ghost use Rattle.ucq_print.specs.Laws.{ArePrintable, ArePrintableTuples};
 ghost use Rattle.ucq_run.specs.declared.form.Form.{Form as FormValue};
 ghost use Rattle.ucq_run.specs.declared.form.Form.TheVariants.{Queries, Answers, Counts};
 ghost use Rattle.ucq_run.specs.Asked.{IsWithin, question_in};
-ghost use Rattle.ucq_run.specs.Output.{AreChaseAnswers, change_of, IsWrittenAs, PrintsFor};
+ghost use Rattle.ucq_run.specs.Finished.{AreChaseAnswers};
+ghost use Rattle.ucq_outside.specs.Taken.{change_of};
+ghost use Rattle.ucq_run.specs.Printed.{IsWrittenAs, PrintsFor};
 
 use crate::asked::Asked;
 use crate::form::Form;

@@ -1,9 +1,8 @@
-use Rattle.std.proofs.Common.{◌≡◌, ℕ, zero, suc, ◌+◌, [], ◌∷◌, List, AllPairs, inl, inr, refl, arith}
+use Rattle.std.proofs.Common.{ℕ, zero, suc, [], ◌∷◌, List, AllPairs, inl, inr, refl, arith}
 use Rattle.std.proofs.lemmas.List.Elements.{All-from_recursion}
 use Rattle.ucq_terms.specs.declared.Term.TheVariants.{Variable}
 use Rattle.ucq_terms.specs.Syntax.{Query}
-use Rattle.ucq_terms.specs.Chase.{IsExistential}
-use Rattle.ucq_terms.specs.Unifier.{Node, constant, of_query, of_copy, AreJoined, alone, back, unmatched, IsSeparating, IsSinglePiece}
+use Rattle.ucq_terms.specs.Unifier.{Node, constant, of_query, of_copy, AreJoined, alone, back, IsSeparating, IsSinglePiece}
 use Rattle.ucq_terms.specs.Rewriting.{Member, IsMember, AreApart, all_links}
 use Rattle.ucq_terms.proofs.Lists.{Contains-empty}
 use Rattle.ucq_terms.proofs.Subsets.{IsSameSet-refl}

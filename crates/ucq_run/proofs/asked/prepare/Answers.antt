@@ -3,7 +3,7 @@ use Rattle.ucq_terms.specs.Syntax.{Problem}
 use Rattle.ucq_words.specs.Settings.{settings_value}
 use Rattle.ucq_reader.specs.Outcome.{input_value}
 use Rattle.ucq_run.specs.declared.form.Form.{Form}
-use Rattle.ucq_run.specs.Output.{Question}
+use Rattle.ucq_run.specs.Finished.{Question}
 use Rattle.ucq_chase.specs.Names.{IsHeldProblem}
 use Rattle.ucq_run.proofs.Asking.{asked_is_held, budget_within, workers_within}
 use Rattle.ucq_run.proofs.asked.prepare.Goals as goal

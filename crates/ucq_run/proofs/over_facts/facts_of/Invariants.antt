@@ -1,5 +1,5 @@
 use Rattle.std.proofs.Common.{length, ◌≡◌, ◌≤◌, ◌+◌}
-use Rattle.ucq_run.specs.Output.{AreFactsOf}
+use Rattle.ucq_run.specs.Finished.{AreFactsOf}
 use Rattle.ucq_run.proofs.over_facts.facts_of.Given as goal
 
 abbrev pub invariant-loop-atom : goal.invariant-loop-atom
