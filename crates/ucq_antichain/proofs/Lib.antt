@@ -1,3 +1,5 @@
 pub mod Pruned
-pub mod Words
-pub mod Entries
+pub mod Bits
+pub mod Listed
+pub mod Indexed
+pub mod Walked

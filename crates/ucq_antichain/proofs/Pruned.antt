@@ -1,115 +1,17 @@
 -- Rows are pruned one after another, and then a new one is added.
-use Rattle.std.proofs.Common.{◌≡◌, ℕ, ◌+◌, ◌<◌, ◌≤◌, ◌⊎◌, inl, inr, refl, sym, ap, ◌∙◌, List, [], ◌∷◌, ◌++◌, Bool, true, false, cond, length, AllPairs, get_or, arith, subst}
-use Rattle.std.proofs.lemmas.Bool.{cases_eq}
+use Rattle.std.proofs.Common.{◌≡◌, ◌≢◌, ℕ, ◌+◌, ◌-◌, ◌<◌, ◌≤◌, ◌⊎◌, inl, inr, refl, sym, ap, ◌∙◌, List, [], ◌∷◌, ◌++◌, Bool, true, false, cond, length, get_or, arith, subst}
+use Rattle.std.specs.Int.{bit_at}
+use Rattle.std.proofs.lemmas.Bool.{cases_eq, cases_order}
+use Rattle.std.proofs.lemmas.Nat.Bits.{bit_at-zero}
 use Rattle.std.proofs.Math.ListN.{set}
-use Rattle.std.proofs.lemmas.List.{get_or_append_left, get_or_at, get_or_default, length-append, get_or-set_same, get_or-set_other, get_or_read, length-set}
-use Rattle.std.proofs.lemmas.List.Sums.{sum_by-append, sum_by-set}
+use Rattle.std.proofs.lemmas.List.{get_or_append_left, get_or_at, get_or_default, length-append, get_or-set_same, get_or-set_other, length-set, get_or_past}
+use Rattle.std.proofs.lemmas.List.Sums.{sum_by-append, sum_by-set, count_by-le-length}
 use Rattle.ucq_terms.specs.Syntax.{Query}
 use Rattle.ucq_terms.specs.Homomorphism.{Covers}
 use Rattle.ucq_antichain.specs.declared.Row.{Row}
-use Rattle.ucq_antichain.specs.declared.Entry.{Entry}
-use Rattle.ucq_antichain.specs.Entries.{AreEntries}
-use Rattle.ucq_antichain.specs.Rows.{no_row, row_at, query_at, IsLiveAt, IsAdded, SomeLiveCovers, live_count}
+use Rattle.ucq_antichain.specs.Rows.{no_row, row_at, query_at, IsAdded, SomeLiveCovers, live_count}
 use Rattle.ucq_antichain.specs.Calls.{MayDie, IsPruned, AddsRow}
-
--- what a read past the end gives
-abbrev pub no_entry : Entry
-no_entry = record { row = 0; word = 0 }
-
-abbrev pub entry_at : List Entry → ℕ → Entry
-entry_at entries k = get_or entries k no_entry
-
--- the row of one of the first entries
-pub record IsAmongFirst (entries : List Entry) (place row : ℕ) : Type 0 where
-  pub at : ℕ
-  pub earlier : at < place
-  pub of_row : (entry_at entries at).row ≡ row
-
--- what becomes of a row: it is as it was, where none of the first entries is of it, and else it may have died
-abbrev pub MayHaveDied : Query → List Entry → List Row → List Row → ℕ → ℕ → Type 0
-MayHaveDied q entries before now place row =
-    (¬ IsAmongFirst entries place row × (row_at now row ≡ row_at before row)) ⊎
-    (IsAmongFirst entries place row × ((b : Bool) × MayDie q (row_at before row) b (row_at now row)))
-
--- the rows of the first entries are pruned, and the others are as they were
-pub record ArePrunedUpTo (q : Query) (entries : List Entry) (before now : List Row) (place pruned : ℕ) : Type 0 where
-  pub count : length now ≡ length before
-  pub each : (row : ℕ) → MayHaveDied q entries before now place row
-  pub fewer : live_count now + pruned ≡ live_count before
-
-among_next : (entries : List Entry) (place row : ℕ) → IsAmongFirst entries place row → IsAmongFirst entries (place + 1) row
-among_next entries place row a = let l = a.earlier in record { at = a.at; earlier = omega arith; of_row = a.of_row }
-
-among_last : (entries : List Entry) (place row : ℕ) → IsAmongFirst entries (place + 1) row → IsAmongFirst entries place row ⊎ ((entry_at entries place).row ≡ row)
-among_last entries place row a = elim (cases_eq a.at place) [
-  | inl e ↦ inr (subst (λ (k : ℕ). (entry_at entries k).row ≡ row) e a.of_row)
-  | inr ne ↦ let l = a.earlier in inl (record { at = a.at; earlier = omega arith; of_row = a.of_row })
-]
-
-module _ (q : Query) (entries : List Entry) (before now : List Row) (place pruned : ℕ) (h : ArePrunedUpTo q entries before now place pruned)
-    (rising : AllPairs (λ (a b : Entry). a.row < b.row) entries) (there : place < length entries) (inside : (entry_at entries place).row < length now) where
-  -- the row of the next entry
-  abbrev next : ℕ
-  next = (entry_at entries place).row
-
-  -- what a row counts for
-  abbrev one : Row → ℕ
-  one r = cond r.live 1 0
-
-  -- none of the first entries is of it
-  fresh : ¬ IsAmongFirst entries place next
-  fresh a = let l : (entry_at entries a.at).row < next = rising a.at place no_entry a.earlier there in let e = a.of_row in omega arith
-
-  still : row_at now next ≡ row_at before next
-  still = elim (h.each next) [ inl (n, e) ↦ e | inr (a, m) ↦ absurd (fresh a) ]
-
-  counts : (row : Row) → live_count (set now next row) + one (row_at before next) ≡ live_count now + one row
-  counts row = subst (λ (r : Row). live_count (set now next row) + one r ≡ live_count now + one row) still (sum_by-set one now next row no_row inside)
-
-  fewer_now : (b : Bool) (row : Row) → MayDie q (row_at before next) b row → live_count (set now next row) + (pruned + cond b 1 0) ≡ live_count before
-  fewer_now true row (live, covers, same) =
-      let c = counts row in
-      let was : one (row_at before next) ≡ 1 = ap (λ (l : Bool). cond l 1 0) live in
-      let is : one row ≡ 0 = ap one same in
-      let f : live_count now + pruned ≡ live_count before = h.fewer in
-      omega arith
-  fewer_now false row (same, none) =
-      let c = counts row in
-      let is : one row ≡ one (row_at before next) = ap one same in
-      let f : live_count now + pruned ≡ live_count before = h.fewer in
-      omega arith
-
-  each_next : (b : Bool) (row : Row) → MayDie q (row_at before next) b row → (k : ℕ) → MayHaveDied q entries before (set now next row) (place + 1) k
-  each_next b row may k = elim (cases_eq k next) [
-    | inl e ↦ inr (
-      record { at = place; earlier = omega arith; of_row = sym e },
-      (
-        b,
-        subst (λ (i : ℕ). MayDie q (row_at before i) b (row_at (set now next row) i)) (sym e)
-            (subst (MayDie q (row_at before next) b) (sym (get_or-set_same now next row no_row inside)) may),
-      ),
-    )
-    | inr ne ↦
-        let other : row_at (set now next row) k ≡ row_at now k = get_or-set_other now next k row no_row ne in
-        elim (h.each k) [
-          | inl (n, e) ↦ inl ((λ a. elim (among_last entries place k a) [ inl a' ↦ n a' | inr same ↦ ne (sym same) ]), other ∙ e)
-          | inr (a, (c, m)) ↦ inr (among_next entries place k a, (c, subst (MayDie q (row_at before k) c) (sym other) m))
-        ]
-  ]
-
-  pub prune_next : (b : Bool) (row : Row) → MayDie q (row_at before next) b row → ArePrunedUpTo q entries before (set now next row) (place + 1) (pruned + cond b 1 0)
-  prune_next b row may = record {
-    count = length-set now next row ∙ h.count;
-    each = each_next b row may;
-    fewer = fewer_now b row may;
-  }
-
-  -- the same, where the row was read
-  pub prune_read : (b : Bool) (read row : Row) (pruned' : ℕ) → read ≡ get_or now next read → pruned' ≡ pruned + cond b 1 0 → MayDie q (get_or now next read) b row →
-      ArePrunedUpTo q entries before (set now next row) (place + 1) pruned'
-  prune_read b read row pruned' is counted may =
-      subst (ArePrunedUpTo q entries before (set now next row) (place + 1)) (sym counted)
-      (prune_next b row (subst (λ (r : Row). MayDie q r b row) (sym is ∙ get_or_read now next read inside is no_row ∙ still) may))
+use Rattle.ucq_antichain.specs.Walks.{HasCovered, DiesAt, IsPrunedFrom}
 
 -- what pruning keeps of a row and changes
 pruned_query : (q : Query) (old : Row) (b : Bool) (now : Row) → MayDie q old b now → now.query ≡ old.query
@@ -125,31 +27,160 @@ pruned_dead : (q : Query) (old : Row) (b : Bool) (now : Row) → MayDie q old b 
 pruned_dead q old true now (live, covers, same) dead e = dead live
 pruned_dead q old false now (same, none) dead e = dead (sym (ap (λ (r : Row). r.live) same) ∙ e)
 
-pub none_pruned : (q : Query) (entries : List Entry) (rows : List Row) → ArePrunedUpTo q entries rows rows 0 0
-none_pruned q entries rows = record { count = refl; each = λ row. inl ((λ a. let l = a.earlier in omega arith), refl); fewer = omega arith }
+-- a row that was looked at twice
+may_twice : (q : Query) (old mid now : Row) (b c : Bool) → MayDie q old b mid → MayDie q mid c now → (d : Bool) × MayDie q old d now
+may_twice q old mid now true true (live, covers, same) (alive, also, is) = absurd (let e : mid.live ≡ false = ap (λ (r : Row). r.live) same in let f : mid.live ≡ true = alive in cc)
+may_twice q old mid now true false (live, covers, same) (is, unless) = (true, (live, covers, is ∙ same))
+may_twice q old mid now false c (same, unless) may = (c, subst (λ (r : Row). MayDie q r c now) same may)
 
-module _ (q : Query) (entries : List Entry) (before now : List Row) (place pruned : ℕ) (h : ArePrunedUpTo q entries before now place pruned)
-    (e : AreEntries entries before) (all : length entries ≤ place) where
-  among : (row : ℕ) → IsLiveAt before row → IsAmongFirst entries place row
-  among row live =
-      let has = e.all row live in
-      let (k, l, is) = has.among in
-      record { at = k; earlier = omega (arith, l); of_row = ap (λ (x : Entry). x.row) (get_or_default entries k no_entry _ l ∙ is) ∙ has.of_row }
+pub cases_below : (n m : ℕ) → (n < m) ⊎ (m ≤ n)
+cases_below n m = elim (cases_eq n m) [
+  | inl e ↦ inr (omega (arith, e))
+  | inr ne ↦ elim (cases_order n m) [ inl e ↦ inr (omega (arith, e)) | inr (inl l) ↦ inl l | inr (inr g) ↦ inr (omega (arith, g)) ]
+]
 
-  pub all_pruned : IsPruned q before now pruned
-  all_pruned = record {
-    count = h.count;
-    query = λ row l. elim (h.each row) [ inl (n, same) ↦ ap (λ (r : Row). r.query) same | inr (a, (b, may)) ↦ pruned_query q (row_at before row) b (row_at now row) may ];
-    live = λ row l alive. elim (h.each row) [
-      | inl (n, same) ↦ absurd (n (among row alive))
-      | inr (a, (b, may)) ↦ pruned_live q (row_at before row) b (row_at now row) may alive
-    ];
-    dead = λ row l dead. elim (h.each row) [
-      | inl (n, same) ↦ λ live. dead (sym (ap (λ (r : Row). r.live) same) ∙ live)
-      | inr (a, (b, may)) ↦ pruned_dead q (row_at before row) b (row_at now row) may dead
-    ];
-    fewer = h.fewer;
+-- what a row counts for
+abbrev one : Row → ℕ
+one r = cond r.live 1 0
+
+counted : (q : Query) (b : Bool) (before row : Row) → MayDie q before b row → one row + cond b 1 0 ≡ one before
+counted q true before row (live, covers, same) =
+    let was : one before ≡ 1 = ap (λ (l : Bool). cond l 1 0) live in
+    let is : one row ≡ 0 = ap one same in
+    omega arith
+counted q false before row (same, unless) = let is : one row ≡ one before = ap one same in omega arith
+
+-- a row that was read is written
+pub dies_there : (q : Query) (rows : List Row) (place : ℕ) (read row : Row) (b : Bool) → place < length rows → read ≡ get_or rows place read → MayDie q read b row →
+    DiesAt q rows (set rows place row) place b
+dies_there q rows place read row b inside is may = record {
+  count = length-set rows place row;
+  here = subst (MayDie q (row_at rows place) b) (sym (get_or-set_same rows place row no_row inside)) at;
+  others = λ other ne. get_or-set_other rows place other row no_row ne;
+  fewer =
+      let c : live_count (set rows place row) + one (row_at rows place) ≡ live_count rows + one row = sum_by-set one rows place row no_row inside in
+      let d : one row + cond b 1 0 ≡ one (row_at rows place) = counted q b (row_at rows place) row at in
+      omega (arith, c, d);
+}
+  where
+    at : MayDie q (row_at rows place) b row
+    at = subst (λ (r : Row). MayDie q r b row) (is ∙ get_or_default rows place read no_row inside) may
+
+-- no row is at the place
+pub dies_nowhere : (q : Query) (rows : List Row) (place : ℕ) → length rows ≤ place → DiesAt q rows rows place false
+dies_nowhere q rows place past = record {
+  count = refl;
+  here = (refl, λ live. let e : false ≡ true = subst (λ (r : Row). r.live ≡ true) (get_or_past rows place no_row past) live in absurd (cc));
+  others = λ other ne. refl;
+  fewer = omega arith;
+}
+
+-- of the 64 rows from one on those are pruned that have no bit among those left
+pub record ArePruned (q : Query) (before now : List Row) (from left pruned : ℕ) : Type 0 where
+  pub count : length now ≡ length before
+  pub done : (bit : ℕ) → bit < 64 → ((b : Bool) × MayDie q (row_at before (from + bit)) b (row_at now (from + bit))) ⊎ ((bit_at left bit ≡ 1) × (row_at now (from + bit) ≡ row_at before (from + bit)))
+  pub outside : (row : ℕ) → (row < from) ⊎ (from + 64 ≤ row) → row_at now row ≡ row_at before row
+  pub fewer : live_count now + pruned ≡ live_count before
+
+pub begun : (q : Query) (rows : List Row) (from bits : ℕ) → HasCovered rows q from bits → ArePruned q rows rows from bits 0
+begun q rows from bits h = record {
+  count = refl;
+  done = λ bit l. elim (cases_eq (bit_at bits bit) 1) [
+    | inl e ↦ inr (e, refl)
+    | inr ne ↦ inl (false, (refl, λ live covers. ne (h.each bit l live covers)))
+  ];
+  outside = λ row o. refl;
+  fewer = omega arith;
+}
+
+module _ (q : Query) (before now after : List Row) (from left rest pruned bit : ℕ) (b : Bool) (h : ArePruned q before now from left pruned)
+    (others : (i : ℕ) → i < 64 → bit_at left i ≡ 1 → (i ≡ bit → ⊥) → bit_at rest i ≡ 1) (d : DiesAt q now after (from + bit) b) where
+  abbrev IsDone : ℕ → Type 0
+  IsDone i = ((c : Bool) × MayDie q (row_at before (from + i)) c (row_at after (from + i))) ⊎ ((bit_at rest i ≡ 1) × (row_at after (from + i) ≡ row_at before (from + i)))
+
+  done_here : bit < 64 → IsDone bit
+  done_here within = elim (h.done bit within) [
+    | inl (c, may) ↦ inl (may_twice q (row_at before (from + bit)) (row_at now (from + bit)) (row_at after (from + bit)) c b may d.here)
+    | inr (set, same) ↦ inl (b, subst (λ (r : Row). MayDie q r b (row_at after (from + bit))) same d.here)
+  ]
+
+  done_there : (i : ℕ) → i < 64 → i ≢ bit → IsDone i
+  done_there i within ne =
+      let same : row_at after (from + i) ≡ row_at now (from + i) = d.others (from + i) (λ e. ne (omega (arith, e))) in
+      elim (h.done i within) [
+        | inl (c, may) ↦ inl (c, subst (MayDie q (row_at before (from + i)) c) (sym same) may)
+        | inr (set, still) ↦ inr (others i within set ne, same ∙ still)
+      ]
+
+  pub pruned_next : bit < 64 → (pruned' : ℕ) → pruned' ≡ pruned + cond b 1 0 → ArePruned q before after from rest pruned'
+  pruned_next within pruned' is = record {
+    count = d.count ∙ h.count;
+    done = λ i l. elim (cases_eq i bit) [ inl e ↦ subst IsDone (sym e) (done_here within) | inr ne ↦ done_there i l ne ];
+    outside = λ row o. d.others row (λ e. elim o [ inl l ↦ omega (arith, l, e) | inr l ↦ omega (arith, l, e, within) ]) ∙ h.outside row o;
+    fewer = let f = d.fewer in let g = h.fewer in omega (arith, f, g, is);
   }
+
+pub all_done : (q : Query) (before now : List Row) (from left pruned : ℕ) → ArePruned q before now from left pruned → left ≡ 0 → IsPrunedFrom q before now from (from + 64) pruned
+all_done q before now from left pruned h none = record {
+  count = h.count;
+  between = λ row l m.
+      let i : ℕ = row - from in
+      let at : from + i ≡ row = omega (arith, l) in
+      subst (λ (r : ℕ). (b : Bool) × MayDie q (row_at before r) b (row_at now r)) at (elim (h.done i (omega (arith, l, m))) [
+        | inl may ↦ may
+        | inr (set, same) ↦ absurd (let z : bit_at left i ≡ 0 = subst (λ (n : ℕ). bit_at n i ≡ 0) (sym none) (bit_at-zero i) in omega (arith, z, set))
+      ]);
+  outside = h.outside;
+  fewer = h.fewer;
+}
+
+-- one word after another
+pub none_pruned : (q : Query) (rows : List Row) (from : ℕ) → IsPrunedFrom q rows rows from from 0
+none_pruned q rows from = record { count = refl; between = λ row l m. absurd (omega arith); outside = λ row o. refl; fewer = omega arith }
+
+pub pruned_further : (q : Query) (before mid after : List Row) (from place to pruned more : ℕ) → from ≤ place → place ≤ to → IsPrunedFrom q before mid from place pruned →
+    IsPrunedFrom q mid after place to more → IsPrunedFrom q before after from to (pruned + more)
+pruned_further q before mid after from place to pruned more low high h d = record {
+  count = d.count ∙ h.count;
+  between = λ row l m. elim (cases_below row place) [
+    | inl b ↦ let (c, may) = h.between row l b in (c, subst (MayDie q (row_at before row) c) (sym (d.outside row (inl b))) may)
+    | inr a ↦ let (c, may) = d.between row a m in (c, subst (λ (r : Row). MayDie q r c (row_at after row)) (h.outside row (inr a)) may)
+  ];
+  outside = λ row o. elim o [
+    | inl l ↦ d.outside row (inl (omega (arith, l, low))) ∙ h.outside row (inl l)
+    | inr l ↦ d.outside row (inr l) ∙ h.outside row (inr (omega (arith, l, high)))
+  ];
+  fewer = let f = d.fewer in let g = h.fewer in omega (arith, f, g);
+}
+
+-- so many rows can't die as there are
+pub few_pruned : (before now : List Row) (pruned n : ℕ) → live_count now + pruned ≡ live_count before → length before ≤ n → pruned ≤ n
+few_pruned before now pruned n e l = let c = count_by-le-length (λ (r : Row). r.live) before in omega (arith, e, l, c)
+
+-- queries stay
+pub queries_stay : (q : Query) (before now : List Row) (from to pruned row : ℕ) → IsPrunedFrom q before now from to pruned → query_at now row ≡ query_at before row
+queries_stay q before now from to pruned row h = elim (cases_below row from) [
+  | inl b ↦ ap (λ (r : Row). r.query) (h.outside row (inl b))
+  | inr a ↦ elim (cases_below row to) [
+    | inl b ↦ let (c, may) = h.between row a b in pruned_query q (row_at before row) c (row_at now row) may
+    | inr past ↦ ap (λ (r : Row). r.query) (h.outside row (inr past))
+  ]
+]
+
+pub query_stays : (q : Query) (before now : List Row) (place row : ℕ) (b : Bool) → DiesAt q before now place b → query_at now row ≡ query_at before row
+query_stays q before now place row b d = elim (cases_eq row place) [
+  | inl e ↦ subst (λ (r : ℕ). query_at now r ≡ query_at before r) (sym e) (pruned_query q (row_at before place) b (row_at now place) d.here)
+  | inr ne ↦ ap (λ (r : Row). r.query) (d.others row ne)
+]
+
+pub all_pruned : (q : Query) (before now : List Row) (to pruned : ℕ) → IsPrunedFrom q before now 0 to pruned → length before ≤ to → IsPruned q before now pruned
+all_pruned q before now to pruned h enough = record {
+  count = h.count;
+  query = λ row l. queries_stay q before now 0 to pruned row h;
+  live = λ row l alive. let (b, may) = h.between row (omega arith) (omega (arith, l, enough)) in pruned_live q (row_at before row) b (row_at now row) may alive;
+  dead = λ row l dead. let (b, may) = h.between row (omega arith) (omega (arith, l, enough)) in pruned_dead q (row_at before row) b (row_at now row) may dead;
+  fewer = h.fewer;
+}
 
 -- the rows and a live one after them
 abbrev pub with_last : List Row → Query → List Row

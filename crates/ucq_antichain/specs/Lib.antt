@@ -1,4 +1,5 @@
 pub mod Rows
 pub mod Calls
-pub mod Signatures
-pub mod Entries
+pub mod Sets
+pub mod Index
+pub mod Walks

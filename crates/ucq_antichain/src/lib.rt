@@ -1,23 +1,26 @@
 //! Rows of queries, live and dead: a new row makes those dead that it covers, and none is added that a live one covers.
 #![tactic(auto)]
 
-ghost use Rattle.std.specs.Prelude.{◌≡◌, ◌+◌, ◌<◌, ◌≤◌, ◌++◌, ◌∷◌, [], length, filter, IfOk, IsTrue, ◌↔◌, vec_len};
+ghost use Rattle.std.specs.Prelude.{◌≡◌, ◌+◌, ◌*◌, ◌<◌, ◌≤◌, ◌++◌, ◌∷◌, [], length, IfOk, IsTrue, ◌↔◌, vec_len};
 ghost use Rattle.std.specs.Vec.{vec_capacity};
 ghost use Rattle.ucq_terms.specs.Homomorphism.{Covers};
 ghost use Rattle.ucq_terms.specs.Query.{IsStored};
 ghost use Rattle.ucq_hom.specs.Space.{IsClear};
-ghost use Rattle.ucq_antichain.specs.declared.Entry.{Entry as EntryValue};
+ghost use Rattle.ucq_hom.specs.Signature.{signature_of};
 ghost use Rattle.ucq_antichain.specs.Rows.{row_at, query_at, live_queries, IsLiveAt};
-ghost use Rattle.ucq_antichain.specs.Signatures.{query_word as word_of};
-ghost use Rattle.ucq_antichain.specs.Entries.{AreEntries, IsEntry};
+ghost use Rattle.ucq_antichain.specs.Walks.{IsIndexOf, HasCovers, HasCovered, IsCoverFrom, DiesAt, IsPrunedFrom};
 ghost use Rattle.ucq_antichain.specs.Calls.{IsCoverIn, MayDie, IsPruned, DoesAdd};
 
-mod signatures;
+mod index;
+mod marked;
+mod row_sets;
 
-use signatures::{may_cover, query_word};
+use index::Index;
+use marked::Marked;
+use row_sets::{lowest, without};
 use std::alloc::Global;
 use std::marker::Model;
-use ucq_hom::{HomSpace, covers};
+use ucq_hom::{HomSpace, Signature, covers};
 use ucq_terms::{NoMemory, Query};
 
 /// A query, live or dead.
@@ -27,35 +30,28 @@ pub struct Row {
     pub live: bool,
 }
 
-// A row that may be live, with the word of its query.
-#[derive(Clone, Copy)]
-struct Entry {
-    row: u32,
-    word: u64,
-}
-
 /// Up to `budget` rows, in the order in which they were added. Contracts see it as the budget and the list of rows.
 #[derive(Drop)]
 pub struct Antichain {
     budget: u32,
     rows: Vec<Row>,
-    // each live row, in order, with the word of its query
-    entries: Vec<Entry>,
+    // the signatures of the rows, and the rows by their marks
+    index: Index,
     // empty, with room for all rows, so that `into_live` takes no memory
     room: Vec<Query>,
 }
 
 impl Model for Antichain {
-    ghost use Rattle.std.specs.Prelude.{◌≡◌, ◌≤◌, [], length};
+    ghost use Rattle.std.specs.Prelude.{◌≡◌, ◌*◌, ◌≤◌, [], length};
     ghost use Rattle.std.specs.Vec.{vec_capacity};
     ghost use Rattle.ucq_antichain.specs.Rows.{Kept};
-    ghost use Rattle.ucq_antichain.specs.Entries.{AreEntries};
+    ghost use Rattle.ucq_antichain.specs.Walks.{IsIndexOf};
 
     ghost Value = { Kept };
 
     ghost view = { λ a. record { budget = a.budget; rows = a.rows.items } };
 
-    ghost invariant = { λ a. (a.budget ≤ 65536) × (length a.rows.items ≤ a.budget) × (a.budget ≤ vec_capacity a.rows) × (a.room.items ≡ []) × (a.budget ≤ vec_capacity a.room) × AreEntries a.entries.items a.rows.items × (a.budget ≤ vec_capacity a.entries) };
+    ghost invariant = { λ a. (a.budget ≤ 65536) × (length a.rows.items ≤ a.budget) × (a.budget ≤ vec_capacity a.rows) × (a.room.items ≡ []) × (a.budget ≤ vec_capacity a.room) × IsIndexOf a.index a.rows.items × (a.budget ≤ 512 * a.index.blocks) };
 }
 
 /// What became of a query that was to be added.
@@ -77,12 +73,12 @@ impl Antichain {
         ensures { IfOk result (λ a. a ≡ record { budget = budget; rows = [] }) }
     {
         let rows = Vec::with_capacity(alloc, budget as usize)?;
-        let entries = Vec::with_capacity(alloc, budget as usize)?;
+        let index = Index::new(alloc, (budget as usize).div_ceil(512))?;
         let room = Vec::with_capacity(alloc, budget as usize)?;
         Ok(Antichain {
             budget,
             rows,
-            entries,
+            index,
             room,
         })
     }
@@ -126,14 +122,8 @@ impl Antichain {
         ensures cover { IsCoverIn self.now.rows query.now result }
         ensures clear { IsClear space.new }
     {
-        let word = query_word(query);
-        first_cover(
-            space,
-            self.rows.as_slice(),
-            self.entries.as_slice(),
-            query,
-            word,
-        )
+        let marked = Marked::of(query);
+        first_cover(space, self.rows.as_slice(), &self.index, query, &marked)
     }
 
     /// Adds the query as the last row, live, where no live row covers it and there is room, and makes the live rows dead
@@ -143,30 +133,24 @@ impl Antichain {
         ensures stored { IsStored query }
         ensures clear { IsClear space.new }
     {
-        let word = query_word(&query);
-        let covered = first_cover(
-            space,
-            self.rows.as_slice(),
-            self.entries.as_slice(),
-            &query,
-            word,
-        );
+        let marked = Marked::of(&query);
+        let covered = first_cover(space, self.rows.as_slice(), &self.index, &query, &marked);
         if let Some(row) = covered {
             return Added::Covered { row, query };
         }
         if self.rows.len() == self.budget as usize {
             return Added::Full { query };
         }
-        let pruned = prune_all(
+        let pruned = prune(
             space,
             self.rows.as_mut_slice(),
-            &mut self.entries,
+            &self.index,
             &query,
-            word,
+            &marked,
         );
         let row = self.rows.len() as u32;
         push_within(&mut self.rows, Row { query, live: true });
-        push_within(&mut self.entries, Entry { row, word });
+        self.index.push(&marked);
         Added::Added { row, pruned }
     }
 
@@ -183,101 +167,130 @@ impl Antichain {
     }
 }
 
-// Whether the entry's row is live and covers the query. Its word is looked at first, since most are told by it. Nothing is
-// left in the space.
-fn is_cover(space: &mut HomSpace, rows: &[Row], entry: Entry, query: &Query, word: u64) -> bool
-    requires entry { IsEntry rows.now entry }
-    requires word { word ≡ word_of query.now }
+// Whether the row is live and covers the query. Its signature is looked at first, since most are told by it. Nothing is left
+// in the space.
+fn is_cover(
+    space: &mut HomSpace,
+    rows: &[Row],
+    index: &Index,
+    row: u32,
+    query: &Query,
+    marked: &Marked,
+) -> bool
+    requires index { IsIndexOf index.now rows.now }
+    requires marked { marked.now ≡ signature_of query.now }
     requires clear { IsClear space.old }
-    ensures covers { IsTrue result ↔ (IsLiveAt rows.now entry.row × Covers (query_at rows.now entry.row) query.now) }
+    ensures covers { IsTrue result ↔ (IsLiveAt rows.now row × Covers (query_at rows.now row) query.now) }
     ensures clear { IsClear space.new }
 {
-    if !may_cover(entry.word, word) {
+    if row as usize >= rows.len() {
         return false;
     }
-    let row = &rows[entry.row as usize];
-    if !row.live {
+    if !index.signature(row).may_cover(marked.signature()) {
         return false;
     }
-    let found = covers(space, &row.query, query);
+    let kept = &rows[row as usize];
+    if !kept.live {
+        return false;
+    }
+    let found = covers(space, &kept.query, query);
     space.clear();
     found
+}
+
+// The first live row that covers the query of the 64 from a row on, of which only these bits may.
+fn cover_among(
+    space: &mut HomSpace,
+    rows: &[Row],
+    index: &Index,
+    among: u64,
+    from: u32,
+    query: &Query,
+    marked: &Marked,
+) -> Option<u32>
+    requires index { IsIndexOf index.now rows.now }
+    requires marked { marked.now ≡ signature_of query.now }
+    requires clear { IsClear space.old }
+    requires few { from ≤ 65536 }
+    requires among { HasCovers rows.now query.now from among }
+    ensures cover { IsCoverFrom rows.now query.now from (from + 64) result }
+    ensures clear { IsClear space.new }
+{
+    let mut left = among;
+    while left > 0 {
+        let bit = lowest(left);
+        if is_cover(space, rows, index, from + bit, query, marked) {
+            return Some(from + bit);
+        }
+        left = without(left, bit);
+    }
+    None
+}
+
+// The first live row of a block that covers the query.
+fn cover_in(
+    space: &mut HomSpace,
+    rows: &[Row],
+    index: &Index,
+    block: usize,
+    query: &Query,
+    marked: &Marked,
+) -> Option<u32>
+    requires index { IsIndexOf index.now rows.now }
+    requires marked { marked.now ≡ signature_of query.now }
+    requires clear { IsClear space.old }
+    requires few { block < 128 }
+    requires block { block < index.now.blocks }
+    ensures cover { IsCoverFrom rows.now query.now (512 * block) (512 * block + 512) result }
+    ensures clear { IsClear space.new }
+{
+    let among = index.may_cover(marked, block);
+    for word in 0..8usize {
+        let from = 512 * block as u32 + 64 * word as u32;
+        if let Some(row) = cover_among(space, rows, index, among[word], from, query, marked) {
+            return Some(row);
+        }
+    }
+    None
 }
 
 // The first live row that covers the query.
 fn first_cover(
     space: &mut HomSpace,
     rows: &[Row],
-    entries: &[Entry],
+    index: &Index,
     query: &Query,
-    word: u64,
+    marked: &Marked,
 ) -> Option<u32>
-    requires entries { AreEntries entries.now rows.now }
-    requires word { word ≡ word_of query.now }
+    requires index { IsIndexOf index.now rows.now }
+    requires marked { marked.now ≡ signature_of query.now }
     ensures cover { IsCoverIn rows.now query.now result }
     ensures clear { IsClear space.new }
 {
     space.clear();
-    for entry in entries {
-        if is_cover(space, rows, *entry, query, word) {
-            return Some(entry.row);
+    for block in 0..index.blocks() {
+        if let Some(row) = cover_in(space, rows, index, block, query, marked) {
+            return Some(row);
         }
     }
     None
 }
 
-// Makes the live rows dead that the query covers, counts them, and drops their entries.
-fn prune_all(
+// Makes the row dead if it is live and the query covers it, and says whether it does. Its signature is looked at first.
+fn dies(
     space: &mut HomSpace,
-    rows: &mut [Row],
-    entries: &mut Vec<Entry>,
+    row: &mut Row,
+    signature: &Signature,
     query: &Query,
-    word: u64,
-) -> u32
-    requires entries { AreEntries entries.old.items rows.old }
-    requires word { word ≡ word_of query.now }
-    requires few { length rows.old ≤ 65536 }
-    requires clear { IsClear space.old }
-    ensures pruned { IsPruned query.now rows.old rows.new result }
-    ensures entries { AreEntries entries.new.items rows.new }
-    ensures capacity { vec_capacity entries.new ≡ vec_capacity entries.old }
-    ensures clear { IsClear space.new }
-{
-    let pruned = prune(space, rows, entries.as_slice(), query, word);
-    if pruned > 0 {
-        drop_dead(entries, rows);
-    }
-    pruned
-}
-
-// Makes the live rows dead that the query covers, and counts them.
-fn prune(space: &mut HomSpace, rows: &mut [Row], entries: &[Entry], query: &Query, word: u64) -> u32
-    requires entries { AreEntries entries.now rows.old }
-    requires word { word ≡ word_of query.now }
-    requires few { length rows.old ≤ 65536 }
-    requires clear { IsClear space.old }
-    ensures pruned { IsPruned query.now rows.old rows.new result }
-    ensures clear { IsClear space.new }
-{
-    let mut pruned = 0;
-    for entry in entries {
-        let row = &mut rows[entry.row as usize];
-        if dies(space, row, entry.word, query, word) {
-            pruned += 1;
-        }
-    }
-    pruned
-}
-
-// Makes the row dead if it is live and the query covers it, and says whether it does. Its word is looked at first.
-fn dies(space: &mut HomSpace, row: &mut Row, row_word: u64, query: &Query, word: u64) -> bool
-    requires row { row_word ≡ word_of row.old.query }
-    requires word { word ≡ word_of query.now }
+    marked: &Marked,
+) -> bool
+    requires row { signature.now ≡ signature_of row.old.query }
+    requires marked { marked.now ≡ signature_of query.now }
     requires clear { IsClear space.old }
     ensures dies { MayDie query.now row.old result row.new }
     ensures clear { IsClear space.new }
 {
-    if !may_cover(word, row_word) || !row.live {
+    if !marked.signature().may_cover(signature) || !row.live {
         return false;
     }
     let found = covers(space, query, &row.query);
@@ -288,21 +301,107 @@ fn dies(space: &mut HomSpace, row: &mut Row, row_word: u64, query: &Query, word:
     found
 }
 
-fn is_live_at(rows: &[Row], row: u32) -> bool
-    ensures { result ≡ (row_at rows.now row).live }
+// The same for the row at a place, if there is one.
+fn dies_at(
+    space: &mut HomSpace,
+    rows: &mut [Row],
+    index: &Index,
+    row: u32,
+    query: &Query,
+    marked: &Marked,
+) -> bool
+    requires index { IsIndexOf index.now rows.old }
+    requires marked { marked.now ≡ signature_of query.now }
+    requires clear { IsClear space.old }
+    ensures dies { DiesAt query.now rows.old rows.new row result }
+    ensures clear { IsClear space.new }
 {
-    match rows.get(row as usize) {
-        Some(row) => row.live,
-        None => false,
+    if row as usize >= rows.len() {
+        return false;
     }
+    let kept = &mut rows[row as usize];
+    dies(space, kept, index.signature(row), query, marked)
 }
 
-// Keeps the entries of live rows alone.
-fn drop_dead(entries: &mut Vec<Entry>, rows: &[Row])
-    ensures live { entries.new.items ≡ filter (λ (e : EntryValue). (row_at rows.now e.row).live) entries.old.items }
-    ensures capacity { vec_capacity entries.new ≡ vec_capacity entries.old }
+// Makes the live rows dead that the query covers of the 64 from a row on, of which it may cover only these bits, and counts
+// them.
+fn prune_among(
+    space: &mut HomSpace,
+    rows: &mut [Row],
+    index: &Index,
+    among: u64,
+    from: u32,
+    query: &Query,
+    marked: &Marked,
+) -> u32
+    requires index { IsIndexOf index.now rows.old }
+    requires marked { marked.now ≡ signature_of query.now }
+    requires clear { IsClear space.old }
+    requires few { length rows.old ≤ 65536 }
+    requires from { from ≤ 65536 }
+    requires among { HasCovered rows.old query.now from among }
+    ensures pruned { IsPrunedFrom query.now rows.old rows.new from (from + 64) result }
+    ensures clear { IsClear space.new }
 {
-    entries.retain(|entry| is_live_at(rows, entry.row));
+    let mut pruned = 0;
+    let mut left = among;
+    while left > 0 {
+        let bit = lowest(left);
+        if dies_at(space, rows, index, from + bit, query, marked) {
+            pruned += 1;
+        }
+        left = without(left, bit);
+    }
+    pruned
+}
+
+// Makes the live rows of a block dead that the query covers, and counts them.
+fn prune_in(
+    space: &mut HomSpace,
+    rows: &mut [Row],
+    index: &Index,
+    block: usize,
+    query: &Query,
+    marked: &Marked,
+) -> u32
+    requires index { IsIndexOf index.now rows.old }
+    requires marked { marked.now ≡ signature_of query.now }
+    requires few { length rows.old ≤ 65536 }
+    requires clear { IsClear space.old }
+    requires low { block < 128 }
+    requires block { block < index.now.blocks }
+    ensures pruned { IsPrunedFrom query.now rows.old rows.new (512 * block) (512 * block + 512) result }
+    ensures clear { IsClear space.new }
+{
+    let among = index.may_be_covered(marked, block);
+    let mut pruned = 0;
+    for word in 0..8usize {
+        let from = 512 * block as u32 + 64 * word as u32;
+        pruned += prune_among(space, rows, index, among[word], from, query, marked);
+    }
+    pruned
+}
+
+// Makes the live rows dead that the query covers, and counts them.
+fn prune(
+    space: &mut HomSpace,
+    rows: &mut [Row],
+    index: &Index,
+    query: &Query,
+    marked: &Marked,
+) -> u32
+    requires index { IsIndexOf index.now rows.old }
+    requires marked { marked.now ≡ signature_of query.now }
+    requires few { length rows.old ≤ 65536 }
+    requires clear { IsClear space.old }
+    ensures pruned { IsPruned query.now rows.old rows.new result }
+    ensures clear { IsClear space.new }
+{
+    let mut pruned = 0;
+    for block in 0..index.blocks() {
+        pruned += prune_in(space, rows, index, block, query, marked);
+    }
+    pruned
 }
 
 // Adds an item for which there is room.
@@ -326,6 +425,3 @@ fn keep_live(live: &mut Vec<Query>, row: Row)
         let _ = live.push(row.query);
     }
 }
-
-#[cfg(test)]
-mod tests;

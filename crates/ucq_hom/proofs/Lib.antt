@@ -4,3 +4,4 @@ pub mod Found
 pub mod Ordered
 pub mod Homs
 pub mod Noted
+pub mod Signatures

@@ -2,3 +2,4 @@ pub mod Space
 pub mod Bindings
 pub mod Search
 pub mod Levels
+pub mod Signature

@@ -10,10 +10,9 @@ mod levels;
 pub mod matching;
 mod order;
 mod search;
+pub mod signature;
 mod space;
 
 pub use order::order_atoms;
+pub use signature::Signature;
 pub use space::{HomSpace, covers, find_without};
-
-#[cfg(test)]
-mod tests;

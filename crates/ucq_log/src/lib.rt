@@ -7,20 +7,18 @@
 ghost use Rattle.std.specs.Prelude.{◌≡◌, ◌≤◌, ◌↔◌, All, length, IfOk, IfErr, IfSome, IsTrue};
 ghost use Rattle.ucq_terms.specs.Homomorphism.{Covers};
 ghost use Rattle.ucq_hom.specs.Space.{IsClear};
-ghost use Rattle.ucq_log.specs.Words.{query_word as word_of};
+ghost use Rattle.ucq_hom.specs.Signature.{signature_of};
 ghost use Rattle.ucq_log.specs.Log.{IsOf, Holds, IsCover, IsCoverIn, IsSeen};
 
 pub mod laws;
 mod notes;
-mod signatures;
 
 use boxcar::Pushed;
 use notes::Noted;
-use signatures::{may_cover, query_word};
 use std::alloc::Global;
 use std::marker::Model;
 use std::sync::Wait;
-use ucq_hom::HomSpace;
+use ucq_hom::{HomSpace, Signature};
 use ucq_terms::{NoMemory, Query};
 
 // How many of the last entries of a log are looked at for a caller who didn't add them. What was added longer ago has most
@@ -45,20 +43,20 @@ impl Model for Log {
 #[derive(Drop)]
 pub struct Entry {
     pushed: Pushed<Noted>,
-    // the word of the query, so that most entries are passed over without a look at the log
-    word: u64,
+    // that of the query, so that most entries are passed over without a look at the log
+    signature: Signature,
 }
 
 impl Model for Entry {
     ghost use Rattle.std.specs.Prelude.{◌≡◌};
     ghost use Rattle.ucq_log.specs.Notes.{Placed};
-    ghost use Rattle.ucq_log.specs.Words.{query_word};
+    ghost use Rattle.ucq_hom.specs.Signature.{signature_of};
 
     ghost Value = { Placed };
 
     ghost view = { λ e. record { place = e.pushed.index; row = e.pushed.value.row; query = e.pushed.value.query; mark = record { part = e.pushed.bucket; name = e.pushed.row } } };
 
-    ghost invariant = { λ e. e.word ≡ query_word e.pushed.value.query };
+    ghost invariant = { λ e. e.signature ≡ signature_of e.pushed.value.query };
 }
 
 /// Want of memory for an entry. The query comes back.
@@ -90,9 +88,9 @@ impl Log {
         ensures back { IfErr result (λ u. u.query ≡ query) }
     {
         let noted = Noted::new(row, query);
-        let word = noted.word();
+        let signature = noted.signature();
         match self.vec.push_shown(rt, noted) {
-            Ok(pushed) => Ok(Entry { pushed, word }),
+            Ok(pushed) => Ok(Entry { pushed, signature }),
             Err(noted) => Err(Unkept {
                 query: noted.into_query(),
             }),
@@ -125,11 +123,11 @@ impl Log {
         ensures clear { IsClear space.new }
     {
         space.clear();
-        let word = query_word(query);
-        if let Some(place) = self.first_cover(space, own, query, word) {
+        let signature = Signature::of(query);
+        if let Some(place) = self.first_cover(space, own, query, &signature) {
             return Some(Seen::Own { place });
         }
-        match self.newest_cover(space, own, query, word) {
+        match self.newest_cover(space, own, query, &signature) {
             Some(entry) => Some(Seen::Other { entry }),
             None => None,
         }
@@ -141,17 +139,17 @@ impl Log {
         space: &mut HomSpace,
         entries: &[Entry],
         query: &Query,
-        word: u64,
+        signature: &Signature,
     ) -> Option<u32>
         requires few { length entries.now ≤ 65536 }
         requires ours { All (λ e. IsOf self.now e) entries.now }
-        requires word { word ≡ word_of query.now }
+        requires signature { signature.now ≡ signature_of query.now }
         requires clear { IsClear space.old }
         ensures cover { IsCoverIn entries.now query.now result }
         ensures clear { IsClear space.new }
     {
         for (place, entry) in entries.iter().enumerate() {
-            if self.is_cover(space, entry, query, word) {
+            if self.is_cover(space, entry, query, signature) {
                 return Some(place as u32);
             }
         }
@@ -159,17 +157,25 @@ impl Log {
     }
 
     // Whether the entry's query covers the given one.
-    fn is_cover(&self, space: &mut HomSpace, entry: &Entry, query: &Query, word: u64) -> bool
+    fn is_cover(
+        &self,
+        space: &mut HomSpace,
+        entry: &Entry,
+        query: &Query,
+        signature: &Signature,
+    ) -> bool
         requires ours { IsOf self.now entry.now }
-        requires word { word ≡ word_of query.now }
+        requires signature { signature.now ≡ signature_of query.now }
         requires clear { IsClear space.old }
         ensures covers { IsTrue result ↔ Covers entry.now.query query.now }
         ensures clear { IsClear space.new }
     {
-        if !may_cover(entry.word, word) {
+        if !entry.signature.may_cover(signature) {
             return false;
         }
-        self.vec.value(&entry.pushed).does_cover(space, query, word)
+        self.vec
+            .value(&entry.pushed)
+            .does_cover(space, query, signature)
     }
 
     // An entry whose query covers the given one, the newest that is found among the last `NEWEST`. The own entries are passed
@@ -179,9 +185,9 @@ impl Log {
         space: &mut HomSpace,
         own: &[Entry],
         query: &Query,
-        word: u64,
+        signature: &Signature,
     ) -> Option<Entry>
-        requires word { word ≡ word_of query.now }
+        requires signature { signature.now ≡ signature_of query.now }
         requires clear { IsClear space.old }
         ensures cover { IfSome result (λ e. IsCover self.now query.now e) }
         ensures clear { IsClear space.new }
@@ -191,7 +197,7 @@ impl Log {
         for place in (count.saturating_sub(NEWEST)..count).rev() {
             if left > 0 && own[left - 1].place() == place as u64 {
                 left -= 1;
-            } else if let Some(entry) = self.cover_at(space, place, query, word) {
+            } else if let Some(entry) = self.cover_at(space, place, query, signature) {
                 return Some(entry);
             }
         }
@@ -204,9 +210,9 @@ impl Log {
         space: &mut HomSpace,
         place: usize,
         query: &Query,
-        word: u64,
+        signature: &Signature,
     ) -> Option<Entry>
-        requires word { word ≡ word_of query.now }
+        requires signature { signature.now ≡ signature_of query.now }
         requires clear { IsClear space.old }
         ensures cover { IfSome result (λ e. IsCover self.now query.now e) }
         ensures clear { IsClear space.new }
@@ -215,9 +221,9 @@ impl Log {
             return None;
         };
         let noted = self.vec.value(&pushed);
-        if noted.does_cover(space, query, word) {
-            let word = noted.word();
-            return Some(Entry { pushed, word });
+        if noted.does_cover(space, query, signature) {
+            let signature = noted.signature();
+            return Some(Entry { pushed, signature });
         }
         None
     }
@@ -231,6 +237,3 @@ impl Entry {
         self.pushed.index() as u64
     }
 }
-
-#[cfg(test)]
-mod tests;

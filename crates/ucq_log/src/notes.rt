@@ -2,11 +2,10 @@
 ghost use Rattle.std.specs.Prelude.{◌≡◌, ◌↔◌, IsTrue};
 ghost use Rattle.ucq_terms.specs.Homomorphism.{Covers};
 ghost use Rattle.ucq_hom.specs.Space.{IsClear};
-ghost use Rattle.ucq_log.specs.Words.{query_word as word_of};
+ghost use Rattle.ucq_hom.specs.Signature.{signature_of};
 
-use crate::signatures::{may_cover, query_word};
 use std::marker::Model;
-use ucq_hom::{HomSpace, covers};
+use ucq_hom::{HomSpace, Signature, covers};
 use ucq_terms::Query;
 
 /// A row's number and its query. Contracts see it as these two.
@@ -14,28 +13,32 @@ use ucq_terms::Query;
 pub(crate) struct Noted {
     row: u32,
     query: Query,
-    // the word of the query
-    word: u64,
+    // that of the query
+    signature: Signature,
 }
 
 impl Model for Noted {
     ghost use Rattle.std.specs.Prelude.{◌≡◌};
     ghost use Rattle.ucq_log.specs.Notes.{Note};
-    ghost use Rattle.ucq_log.specs.Words.{query_word};
+    ghost use Rattle.ucq_hom.specs.Signature.{signature_of};
 
     ghost Value = { Note };
 
     ghost view = { λ n. record { row = n.row; query = n.query } };
 
-    ghost invariant = { λ n. n.word ≡ query_word n.query };
+    ghost invariant = { λ n. n.signature ≡ signature_of n.query };
 }
 
 impl Noted {
     pub(crate) fn new(row: u32, query: Query) -> Noted
         ensures { result ≡ record { row = row; query = query } }
     {
-        let word = query_word(&query);
-        Noted { row, query, word }
+        let signature = Signature::of(&query);
+        Noted {
+            row,
+            query,
+            signature,
+        }
     }
 
     pub(crate) fn row(&self) -> u32
@@ -50,10 +53,10 @@ impl Noted {
         &self.query
     }
 
-    pub(crate) fn word(&self) -> u64
-        ensures { result ≡ word_of self.now.query }
+    pub(crate) fn signature(&self) -> Signature
+        ensures { result ≡ signature_of self.now.query }
     {
-        self.word
+        self.signature
     }
 
     pub(crate) fn into_query(self) -> Query
@@ -62,14 +65,19 @@ impl Noted {
         self.query
     }
 
-    // Whether its query covers the other, by their words and then by a search. Nothing is left in the space.
-    pub(crate) fn does_cover(&self, space: &mut HomSpace, other: &Query, word: u64) -> bool
-        requires word { word ≡ word_of other.now }
+    // Whether its query covers the other, by their signatures and then by a search. Nothing is left in the space.
+    pub(crate) fn does_cover(
+        &self,
+        space: &mut HomSpace,
+        other: &Query,
+        signature: &Signature,
+    ) -> bool
+        requires signature { signature.now ≡ signature_of other.now }
         requires clear { IsClear space.old }
         ensures covers { IsTrue result ↔ Covers self.now.query other.now }
         ensures clear { IsClear space.new }
     {
-        if !may_cover(self.word, word) {
+        if !self.signature.may_cover(signature) {
             return false;
         }
         let found = covers(space, &self.query, other);

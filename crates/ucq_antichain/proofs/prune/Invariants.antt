@@ -1,11 +1,11 @@
-use Rattle.std.proofs.Common.{◌≤◌}
+use Rattle.std.proofs.Common.{◌*◌}
 use Rattle.ucq_hom.specs.Space.{IsClear}
-use Rattle.ucq_antichain.proofs.Pruned.{ArePrunedUpTo}
+use Rattle.ucq_antichain.specs.Walks.{IsIndexOf, IsPrunedFrom}
 use Rattle.ucq_antichain.proofs.prune.Given as goal
 
-abbrev pub invariant-loop-entry : goal.invariant-loop-entry
-invariant-loop-entry l = record {
-  few : l.pruned ≤ l.entry-index;
+abbrev pub invariant-loop-block : goal.invariant-loop-block
+invariant-loop-block l = record {
   clear : IsClear l.space;
-  pruned : ArePrunedUpTo l.query l.entries l.initial.rows l.rows l.entry-index l.pruned;
+  index : IsIndexOf l.index l.rows;
+  pruned : IsPrunedFrom l.query l.initial.rows l.rows 0 (512 * l.block) l.pruned;
 }

@@ -1,0 +1,27 @@
+-- Sets of rows, one for each mark and one more, as the bits of words.
+use Rattle.std.specs.Prelude.{◌≡◌, ℕ, ◌+◌, ◌*◌, ◌/◌, ◌%◌, ◌<◌, ◌≤◌, List, length, slice_index}
+use Rattle.std.specs.Int.{bit_at}
+
+-- each set has so many words, one after another
+pub record Sets : Type 0 where
+  pub width : ℕ
+  pub words : List ℕ
+
+-- the row is in the set of the mark
+abbrev pub IsIn : Sets → ℕ → ℕ → Type 0
+IsIn sets mark row = bit_at (slice_index sets.words (mark * sets.width + row / 64)) (row % 64) ≡ 1
+
+-- the row is among those of eight words
+abbrev pub IsAmong : List ℕ → ℕ → Type 0
+IsAmong words row = bit_at (slice_index words (row / 64 % 8)) (row % 64) ≡ 1
+
+-- a row that was in a set stays there
+pub record Keeps (before after : Sets) : Type 0 where
+  pub width : after.width ≡ before.width
+  pub each : (mark row : ℕ) → IsIn before mark row → IsIn after mark row
+
+-- the list has just the marks that are bits of the number
+pub record IsListOf (list : List ℕ) (marks : ℕ) : Type 0 where
+  pub few : length list ≤ 128
+  pub only : (k : ℕ) → k < length list → (slice_index list k < 128) × (bit_at marks (slice_index list k) ≡ 1)
+  pub all : (mark : ℕ) → mark < 128 → bit_at marks mark ≡ 1 → (k : ℕ) × (k < length list) × (slice_index list k ≡ mark)
