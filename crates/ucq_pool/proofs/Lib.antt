@@ -1,4 +1,5 @@
 pub mod Renumbered
+pub mod Listed
 pub mod Found
 pub mod Sums
 pub mod Work

@@ -1,3 +1,4 @@
 pub mod Rewritings
 pub mod Progress
 pub mod Shared
+pub mod ByHead

@@ -1,5 +1,5 @@
 -- What rewriting a query with one rule after another finds.
-use Rattle.std.specs.Prelude.{◌≡◌, ℕ, ◌+◌, ◌<◌, ◌++◌, false, List, All, Any, Result, Ok, Err}
+use Rattle.std.specs.Prelude.{◌≡◌, ℕ, ◌+◌, ◌<◌, ◌++◌, false, List, All, Any, Result, Ok, Err, slice_index}
 use Rattle.ucq_terms.specs.Syntax.{Rule, Query, Problem}
 use Rattle.ucq_terms.specs.Homomorphism.{Covers}
 use Rattle.ucq_terms.specs.Rewriting.{IsOneStepWith}
@@ -11,12 +11,12 @@ use Rattle.ucq_pool.specs.declared.rewritings.Fault.{Fault}
 use Rattle.ucq_pool.specs.declared.rewritings.Fault.TheVariants.{Wide, Memory}
 
 -- Candidates that no store has taken, with evidence or without. Their cores are cores of one-step rewritings of the query,
--- and cover all of these with the rules below that number.
-pub record AreFoundBelow (rules : List Rule) (number : ℕ) (q : Query) (candidates : List Candidate) : Type 0 where
+-- and cover all of these with the rules whose numbers stand before that place.
+pub record AreFoundBefore (rules : List Rule) (numbers : List ℕ) (place : ℕ) (q : Query) (candidates : List Candidate) : Type 0 where
   pub cores : List Query
   pub fresh : HoldCores candidates cores
   pub derived : All (IsCoreOfOneStep rules q) cores
-  pub covered : (rule : ℕ) (result : Query) → rule < number → IsOneStepWith rules rule q result → Any (λ core. Covers core result) cores
+  pub covered : (k : ℕ) (result : Query) → k < place → IsOneStepWith rules (slice_index numbers k) q result → Any (λ core. Covers core result) cores
 
 -- candidates that hold these cores, with evidence or without, stand after those that were there
 pub record AreProposed (before : List Candidate) (cores : List Query) (after : List Candidate) : Type 0 where
@@ -31,10 +31,10 @@ DoesRewrite rules q (Err (Wide rule count)) = HasWideStep rules q rule count
 DoesRewrite rules q (Err Memory) = Unit {0}
 
 -- the candidates with one more rule, or a rewriting with it that is too wide
-abbrev pub DoesRewriteWith : List Rule → ℕ → Query → Result (Unit {0}) Fault → List Candidate → Type 0
-DoesRewriteWith rules number q (Ok done) candidates = AreFoundBelow rules (number + 1) q candidates
-DoesRewriteWith rules number q (Err (Wide rule count)) candidates = HasWideStep rules q rule count
-DoesRewriteWith rules number q (Err Memory) candidates = Unit {0}
+abbrev pub DoesRewriteWith : List Rule → List ℕ → ℕ → Query → Result (Unit {0}) Fault → List Candidate → Type 0
+DoesRewriteWith rules numbers place q (Ok done) candidates = AreFoundBefore rules numbers (place + 1) q candidates
+DoesRewriteWith rules numbers place q (Err (Wide rule count)) candidates = HasWideStep rules q rule count
+DoesRewriteWith rules numbers place q (Err Memory) candidates = Unit {0}
 
 -- no store has taken the report, and it is on the query, under the problem
 pub record IsUnspentOn (problem : Problem) (q : Query) (report : Report) : Type 0 where

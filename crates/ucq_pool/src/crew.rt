@@ -6,6 +6,7 @@ ghost use Rattle.ucq_store.specs.Store.{IsCut, IsFinished};
 ghost use Rattle.ucq_store.specs.Laws.{IsEnough};
 ghost use Rattle.ucq_pool.specs.Shared.{IsAtWork, IsStage};
 
+use crate::indexed::IndexedProblem;
 use crate::solo::{alone, go_on};
 use crate::worker::{Round, Worker};
 use std::alloc::Global;
@@ -100,6 +101,7 @@ pub fn rounds_noted<'p, R: Threads + Wait + Sync, G: Gate + Sync>(
     enough_budget();
     let mut space = HomSpace::new(alloc)?;
     let mut store = Store::new(alloc, &mut space, problem, budget)?;
+    let indexed = IndexedProblem::new(alloc, problem)?;
     let log = Log::new(alloc)?;
     let mut crew = hire(alloc, workers, &log)?;
     let mut drawn: u64 = 0;
@@ -108,14 +110,14 @@ pub fn rounds_noted<'p, R: Threads + Wait + Sync, G: Gate + Sync>(
         let rested = round(
             rt,
             alloc,
-            problem,
+            &indexed,
             store,
             claims.as_slice(),
             &mut crew,
             gate,
         )?;
         drawn = drawn.saturating_add(u64::from(rested.drawn));
-        match after_round(alloc, &mut space, problem, budget, rested)? {
+        match after_round(alloc, &mut space, &indexed, budget, rested)? {
             Stage::Going(going) => store = going,
             Stage::Ended(ended) => {
                 // A reader tells that the store is lawful.
@@ -169,7 +171,7 @@ fn claim_open(alloc: Global, store: &mut Store) -> Result<Vec<Claim>, NoMemory>
 fn round<'p, 'l, R: Threads + Wait + Sync, G: Gate + Sync>(
     rt: &R,
     alloc: Global,
-    problem: &'p Problem,
+    problem: &IndexedProblem<'p>,
     store: Store<'p>,
     claims: &[Claim],
     crew: &mut Vec<Worker<'l>>,
@@ -289,7 +291,7 @@ fn rise_all<'l>(
 fn after_round<'p>(
     alloc: Global,
     space: &mut HomSpace,
-    problem: &'p Problem,
+    problem: &IndexedProblem<'p>,
     budget: u32,
     rested: Rested<'p>,
 ) -> Result<Stage<'p>, NoMemory>
@@ -304,8 +306,11 @@ fn after_round<'p>(
         drawn: _,
         is_wanting,
     } = rested;
-    if store.budget() != budget || store.claims() >= CLAIMS || !store.problem().same(problem) {
-        return Ok(Stage::Ended(alone(alloc, space, problem, budget)?));
+    if store.budget() != budget
+        || store.claims() >= CLAIMS
+        || !store.problem().same(problem.problem())
+    {
+        return Ok(Stage::Ended(alone(alloc, space, problem.problem(), budget)?));
     }
     store.reopen();
     if store.cut().is_some() {

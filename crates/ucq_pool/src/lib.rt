@@ -7,6 +7,7 @@
 #![tactic(auto)]
 
 mod crew;
+mod indexed;
 mod own;
 mod rewritings;
 mod solo;
@@ -14,6 +15,3 @@ mod worker;
 
 pub use crew::{Note, rounds, rounds_noted};
 pub use solo::alone;
-
-#[cfg(test)]
-mod tests;

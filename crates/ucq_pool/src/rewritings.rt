@@ -1,15 +1,16 @@
 //! All rewritings of one query, as a report for the store.
-ghost use Rattle.std.specs.Prelude.{◌≡◌, ◌<◌, ◌≤◌, IfOk, length};
+ghost use Rattle.std.specs.Prelude.{◌≡◌, ◌<◌, ◌≤◌, IfOk, length, slice_index};
 ghost use Rattle.ucq_hom.specs.Space.{IsClear};
 ghost use Rattle.ucq_store.specs.Candidates.{HoldsCore};
 ghost use Rattle.ucq_pool.specs.declared.rewritings.Fault.TheVariants.{Memory};
-ghost use Rattle.ucq_pool.specs.Rewritings.{AreFoundBelow, AreProposed, DoesRewrite, DoesRewriteWith, IsUnspentOn};
+ghost use Rattle.ucq_pool.specs.Rewritings.{AreFoundBefore, AreProposed, DoesRewrite, DoesRewriteWith, IsUnspentOn};
 
+use crate::indexed::IndexedProblem;
 use std::alloc::Global;
 use ucq_hom::HomSpace;
 use ucq_step::{StepFault, step};
 use ucq_store::{Candidate, Report};
-use ucq_terms::{NoMemory, Problem, Query, Rule};
+use ucq_terms::{NoMemory, Query, Rule};
 
 /// Why the rewritings of a query are not all found.
 #[derive(Clone, Copy)]
@@ -66,10 +67,10 @@ impl<'q> Propose<'q> for Plainly {
 }
 
 /// A report on all rewritings of the query, or on one that is too wide.
-pub(crate) fn report_on<'q, P: Propose<'q>>(
+pub(crate) fn report_on<'p, 'q, P: Propose<'q>>(
     alloc: Global,
     space: &mut HomSpace,
-    problem: &'q Problem,
+    problem: &'q IndexedProblem<'p>,
     query: Query,
     proposer: &P,
 ) -> Result<(Report<'q>, Kept), NoMemory>
@@ -81,35 +82,36 @@ pub(crate) fn report_on<'q, P: Propose<'q>>(
         copies: Vec::new(alloc),
         seen: 0,
     };
-    let report = match rewrite(alloc, space, problem.rules(), &query, proposer, &mut kept) {
-        Ok(candidates) => Report::whole(problem, query, candidates),
-        Err(Fault::Wide { rule, count }) => Report::wide(problem, query, rule, count),
+    let report = match rewrite(alloc, space, problem, &query, proposer, &mut kept) {
+        Ok(candidates) => Report::whole(problem.problem(), query, candidates),
+        Err(Fault::Wide { rule, count }) => Report::wide(problem.problem(), query, rule, count),
         Err(Fault::Memory) => return Err(NoMemory),
     };
     Ok((report, kept))
 }
 
-/// Candidates of all rewritings of the query, in order of the rules.
+/// Candidates of all rewritings of the query, in order of the rules. Only rules that share a name with the query are tried.
 fn rewrite<'q, P: Propose<'q>>(
     alloc: Global,
     space: &mut HomSpace,
-    rules: &[Rule],
+    problem: &IndexedProblem,
     query: &Query,
     proposer: &P,
     kept: &mut Kept,
 ) -> Result<Vec<Candidate<'q>>, Fault>
-    requires few { length rules.now ≤ 4096 }
     requires clear { IsClear space.old }
-    ensures found { DoesRewrite rules.now query.now result }
+    ensures found { DoesRewrite problem.now.rules query.now result }
     ensures clear { IsClear space.new }
 {
+    let numbers = problem.relevant(alloc, query)?;
     let mut candidates = Vec::new(alloc);
-    for number in 0..rules.len() {
+    for place in 0..numbers.len() {
         rewrite_with(
             alloc,
             space,
-            rules,
-            number,
+            problem.problem().rules(),
+            numbers.as_slice(),
+            place,
             query,
             proposer,
             kept,
@@ -119,29 +121,28 @@ fn rewrite<'q, P: Propose<'q>>(
     Ok(candidates)
 }
 
-/// Adds the candidates of the rewritings with one rule.
+/// Adds the candidates of the rewritings with the rule whose number stands at the place.
 fn rewrite_with<'q, P: Propose<'q>>(
     alloc: Global,
     space: &mut HomSpace,
     rules: &[Rule],
-    number: usize,
+    numbers: &[u32],
+    place: usize,
     query: &Query,
     proposer: &P,
     kept: &mut Kept,
     candidates: &mut Vec<Candidate<'q>>,
 ) -> Result<(), Fault>
-    requires rule { number < length rules.now }
-    requires few { length rules.now ≤ 4096 }
-    requires below { AreFoundBelow rules.now number query.now candidates.old.items }
-    ensures found { DoesRewriteWith rules.now number query.now result candidates.new.items }
+    requires place { place < length numbers.now }
+    requires rule { slice_index numbers.now place < length rules.now }
+    requires before { AreFoundBefore rules.now numbers.now place query.now candidates.old.items }
+    ensures found { DoesRewriteWith rules.now numbers.now place query.now result candidates.new.items }
     ensures clear { IsClear space.new }
 {
-    match step(alloc, space, query, &rules[number]) {
+    let rule = numbers[place];
+    match step(alloc, space, query, &rules[rule as usize]) {
         Ok(steps) => Ok(propose_all(space, steps.cores, proposer, kept, candidates)?),
-        Err(StepFault::Wide { count }) => Err(Fault::Wide {
-            rule: number as u32,
-            count,
-        }),
+        Err(StepFault::Wide { count }) => Err(Fault::Wide { rule, count }),
         Err(StepFault::Memory) => Err(Fault::Memory),
     }
 }

@@ -6,6 +6,7 @@ ghost use Rattle.ucq_store.specs.Calls.{IsClaimed};
 ghost use Rattle.ucq_store.specs.Laws.{IsEnough};
 ghost use Rattle.ucq_pool.specs.Progress.{IsAtRest, IsExplored, DoesAdvance, IsSameTask};
 
+use crate::indexed::IndexedProblem;
 use crate::rewritings::{Plainly, report_on};
 use std::alloc::Global;
 use ucq_hom::HomSpace;
@@ -30,7 +31,8 @@ pub fn alone<'p>(
 {
     enough_budget();
     let store = Store::new(alloc, space, problem, budget)?;
-    let ended = go_on(alloc, space, store, problem)?;
+    let problem = IndexedProblem::new(alloc, problem)?;
+    let ended = go_on(alloc, space, store, &problem)?;
     // A reader tells that the store is lawful.
     let _ = ended.rows();
     Ok(ended)
@@ -41,7 +43,7 @@ pub(crate) fn go_on<'p>(
     alloc: Global,
     space: &mut HomSpace,
     store: Store<'p>,
-    problem: &'p Problem,
+    problem: &IndexedProblem<'p>,
 ) -> Result<Store<'p>, NoMemory>
     requires rest { IsAtRest store }
     requires problem { store.problem ≡ problem.now }
@@ -60,7 +62,7 @@ fn advance<'p>(
     alloc: Global,
     space: &mut HomSpace,
     store: &mut Store<'p>,
-    problem: &'p Problem,
+    problem: &IndexedProblem<'p>,
 ) -> Result<bool, NoMemory>
     requires rest { IsAtRest store.old }
     requires problem { store.old.problem ≡ problem.now }
@@ -83,7 +85,7 @@ fn explore<'p>(
     alloc: Global,
     space: &mut HomSpace,
     store: &mut Store<'p>,
-    problem: &'p Problem,
+    problem: &IndexedProblem<'p>,
     claim: Claim,
 ) -> Result<(), NoMemory>
     requires uncut { store.old.cut ≡ None }
@@ -97,6 +99,6 @@ fn explore<'p>(
     let query = store.query_of(claim.row).copy()?;
     let (mut report, _) = report_on(alloc, space, problem, query, &Plainly)?;
     // The row is claimed and the report is on it, so the store takes the report or is cut.
-    let _ = store.publish(space, claim, &mut report);
+    let _ = store.publish_own(space, claim, &mut report);
     Ok(())
 }

@@ -3,6 +3,7 @@ ghost use Rattle.std.specs.Prelude.{◌≡◌, length};
 ghost use Rattle.ucq_hom.specs.Space.{IsClear};
 ghost use Rattle.ucq_pool.specs.Shared.{IsAtWork};
 
+use crate::indexed::IndexedProblem;
 use crate::own::Own;
 use crate::rewritings::{Kept, report_on};
 use std::alloc::Global;
@@ -12,13 +13,13 @@ use ucq_hom::HomSpace;
 use ucq_log::Log;
 use ucq_outside::Gate;
 use ucq_store::{Claim, Published, Store};
-use ucq_terms::{NoMemory, Problem};
+use ucq_terms::NoMemory;
 
 /// What the workers of a round share: the store behind its lock, the claims of the rows that were open, and a board with a
 /// row for each of these claims.
 #[derive(Drop)]
 pub(crate) struct Round<'r, 'p, G> {
-    pub problem: &'p Problem,
+    pub problem: &'r IndexedProblem<'p>,
     pub store: &'r Mutex<Store<'p>>,
     pub claims: &'r [Claim],
     pub board: &'r Board,

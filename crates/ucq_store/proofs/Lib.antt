@@ -21,6 +21,6 @@ pub mod Offered
 pub mod First
 pub mod Delivered
 pub mod Opens
-pub mod Worked
 pub mod Places
 pub mod Named
+pub mod Moments

@@ -49,7 +49,9 @@ after_full s after place report then t has =
     (length-filled s t.taken t.candidates t.candidates_then t.left t.fills) has
 
 after_wide : (s after : Store) (row place : ℕ) (report then : Report) → IsCutWide s row report after then → HasPlace report.found place → HasPlace then.found place
-after_wide s after row place report then t has = absurd (subst (λ (f : Found). HasPlace f place) t.were has)
+after_wide s after row place report then t has =
+    let none : place < 0 = subst (λ (f : Found). HasPlace f place) t.were has in
+    absurd (omega arith)
 
 pub still_has_place : (s after : Store) (claim : Claim) (report then : Report) (answer : Published) (place : ℕ) → DoesPublish s claim report answer after then →
     HasPlace report.found place → HasPlace then.found place

@@ -5,4 +5,4 @@ pub mod Laws
 pub mod Candidates
 pub mod Reports
 pub mod Calls
-pub mod Worked
+pub mod Moments

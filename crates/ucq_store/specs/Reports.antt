@@ -40,10 +40,14 @@ IsFound rules q (Wide rule count) = HasWideStep rules q rule count
 abbrev pub placed_at : List Candidate → ℕ → Option ℕ
 placed_at candidates place = (slice_index_or candidates place (used None)).placed
 
--- a place of a whole report
+-- how many candidates it has, of a whole report, and none of a wide one
+abbrev pub candidate_count : Found → ℕ
+candidate_count (Whole candidates) = length candidates
+candidate_count (Wide rule count) = 0
+
+-- a place of a candidate
 abbrev pub HasPlace : Found → ℕ → Type 0
-HasPlace (Whole candidates) place = place < length candidates
-HasPlace (Wide rule count) place = ⊥
+HasPlace found place = place < candidate_count found
 
 -- where its last publication added the candidate at a place
 abbrev pub placed_in : Found → ℕ → Option ℕ

@@ -1,6 +1,7 @@
 //! Laws of a lawful store, each the contract of a function that does nothing.
 
 ghost use Rattle.ucq_store.specs.Laws.{CutListing, DerivedKeepsNames, EnoughBudget, FinishedIsClosed, FinishedIsExact, ListingKeepsNames, LiveKeepNames, TakenAreCovered};
+ghost use Rattle.ucq_store.specs.Moments.{StayCovered};
 
 /// The live queries of a finished store cover the problem's query, and each rewriting of each of them.
 pub fn finished_is_closed()
@@ -25,6 +26,11 @@ pub fn enough_budget()
 /// After a report is taken, a live row covers each of its cores, also those for which no row was added.
 pub fn taken_are_covered()
     ensures { TakenAreCovered }
+{}
+
+/// What a live row covers stays covered, whatever calls a store has.
+pub fn stay_covered()
+    ensures { StayCovered }
 {}
 
 /// No row has a name that isn't one of the problem: where each predicate and constant of the problem is a number below some

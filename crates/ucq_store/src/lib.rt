@@ -75,6 +75,3 @@ pub enum Published {
     /// report is spent.
     Taken,
 }
-
-#[cfg(test)]
-mod tests;

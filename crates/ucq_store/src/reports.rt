@@ -5,7 +5,7 @@ ghost use Rattle.ucq_hom.specs.Space.{IsClear};
 ghost use Rattle.ucq_store.specs.Store.{depth_of};
 ghost use Rattle.ucq_store.specs.Lawful.{IsLawful};
 ghost use Rattle.ucq_store.specs.Candidates.{plain, known, IsEvident, IsHeldAt, IsKnownAmong};
-ghost use Rattle.ucq_store.specs.Reports.{AreFound, HasWideStep, HasPlace, placed_at, placed_in};
+ghost use Rattle.ucq_store.specs.Reports.{AreFound, HasWideStep, HasPlace, candidate_count, placed_at, placed_in};
 ghost use Rattle.ucq_store.specs.Calls.{AreOffered, DoesTakeAll, IsAbout, DoesDeliver};
 
 use crate::{Published, Store};
@@ -240,7 +240,7 @@ impl<'q> Report<'q> {
 
     /// How many candidates a whole report has, and 0 of a wide one.
     pub fn candidates(&self) -> usize
-        ensures { (place : ℕ) → place < result → HasPlace self.now.found place }
+        ensures { result ≡ candidate_count self.now.found }
     {
         match &self.found {
             Found::Whole { candidates } => candidates.len(),

@@ -8,7 +8,7 @@ ghost use Rattle.ucq_store.specs.Store.{IsRow, IsFinished};
 ghost use Rattle.ucq_store.specs.Store.{query_of as query_in, state_of as state_in, depth_of as depth_in};
 ghost use Rattle.ucq_store.specs.Lawful.{IsLawfulByLevels, IsLeftOver, IsTooWide};
 ghost use Rattle.ucq_store.specs.Changes.{with_state, with_cut, IsExhausted};
-ghost use Rattle.ucq_store.specs.Calls.{IsNew, DoesClaim, DoesRelease, DoesReopen, DoesRaise, IsOffered, DoesTake, IsAbout as IsAboutRow, DoesPublish};
+ghost use Rattle.ucq_store.specs.Calls.{IsNew, DoesClaim, DoesRelease, DoesReopen, DoesRaise, IsOffered, DoesTake, DoesPublish};
 
 use crate::marks::{
     does_any_wait, first_open, is_any_in_work, is_claimed_under, open_claimed, push_mark, raise,
@@ -227,7 +227,30 @@ impl<'p> Store<'p> {
         if self.cut.is_some() {
             return Published::Cut;
         }
-        if !self.is_about(claim.row, report) {
+        if !self.problem.same(report.problem()) {
+            return Published::Foreign;
+        }
+        self.publish_own(space, claim, report)
+    }
+
+    /// Takes a report as `publish` does, where the caller knows that it is on the store's problem. So the problems aren't
+    /// compared, which takes the time of all rules.
+    pub fn publish_own<'q>(
+        &mut self,
+        space: &mut HomSpace,
+        claim: Claim,
+        report: &mut Report<'q>,
+    ) -> Published
+        requires unspent { report.old.spent ≡ false }
+        requires problem { self.old.problem ≡ report.old.problem }
+        ensures does { DoesPublish self.old claim report.old result self.new report.new }
+        ensures clear { IsClear space.new }
+    {
+        space.clear();
+        if self.cut.is_some() {
+            return Published::Cut;
+        }
+        if !self.holds(claim.row, report.query()) {
             return Published::Foreign;
         }
         let state = self.state_of(claim.row);
@@ -274,13 +297,11 @@ impl<'p> Store<'p> {
         Union::new(self.antichain.into_live())
     }
 
-    // Whether the row has the report's query, under the report's problem.
-    fn is_about(&self, row: u32, report: &Report) -> bool
-        ensures { IsTrue result ↔ IsAboutRow self.now row report.now }
+    // Whether there is a row of that number, with the query.
+    fn holds(&self, row: u32, query: &Query) -> bool
+        ensures { IsTrue result ↔ (IsRow self.now row × (query_in self.now row ≡ query.now)) }
     {
-        row < self.antichain.len()
-            && self.antichain.query(row).same(report.query())
-            && self.problem.same(report.problem())
+        row < self.antichain.len() && self.antichain.query(row).same(query)
     }
 
     // Takes the core of a candidate. What it gives back is left over.
