@@ -8,8 +8,6 @@ mod join;
 pub mod laws;
 mod order;
 mod split;
-#[cfg(test)]
-mod tests;
 mod texts;
 
 pub use evaluation::answers;

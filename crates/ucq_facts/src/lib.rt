@@ -15,8 +15,6 @@ ghost use Rattle.ucq_facts.specs.Index.{position_eq, places_from, HasRoomFrom, I
 mod keys;
 mod matches;
 mod postings;
-#[cfg(test)]
-mod tests;
 
 use indexmap::IndexSet;
 use keys::{Position, Predicate};

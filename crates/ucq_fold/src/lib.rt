@@ -10,6 +10,3 @@ mod shrinking;
 pub use cores::is_core;
 pub use isomorphism::isomorphic;
 pub use shrinking::shrink;
-
-#[cfg(test)]
-mod tests;

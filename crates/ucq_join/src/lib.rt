@@ -13,6 +13,3 @@ mod table;
 
 pub use joined::Joined;
 pub use joins::Joins;
-
-#[cfg(test)]
-mod tests;

@@ -110,6 +110,3 @@ pub fn tokens(alloc: Global, text: &[u8]) -> Result<Vec<Token>, LexFault>
 pub fn one_reading()
     ensures { (text : List ℕ) (a b : List Token) → Spells text a → Spells text b → a ≡ b }
 {}
-
-#[cfg(test)]
-mod tests;

@@ -2,8 +2,6 @@
 #![tactic(auto)]
 
 mod partition;
-#[cfg(test)]
-mod tests;
 
 pub use partition::Partition;
 use std::alloc::{AllocError, AllocFailed};

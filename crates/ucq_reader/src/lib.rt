@@ -155,6 +155,3 @@ pub fn one_meaning()
 pub fn meant_files_are_not_refused()
     ensures { (files : List (List ℕ)) (meant : Meant) (fault : ReadFault) → IsMeaning files (Ok meant) → IsFault files fault → fault ≡ Memory }
 {}
-
-#[cfg(test)]
-mod tests;

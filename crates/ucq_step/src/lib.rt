@@ -115,6 +115,3 @@ pub fn step(
     let cores = kept.into_queries(alloc)?;
     Ok(Steps { cores })
 }
-
-#[cfg(test)]
-mod tests;

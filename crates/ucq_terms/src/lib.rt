@@ -13,8 +13,6 @@ mod predicate;
 mod problems;
 mod queries;
 mod rules;
-#[cfg(test)]
-mod tests;
 mod unions;
 mod variables;
 

@@ -4,7 +4,5 @@
 mod classes;
 mod search;
 mod table;
-#[cfg(test)]
-mod tests;
 
 pub use search::single_pieces;

@@ -78,6 +78,3 @@ pub fn settings(alloc: Global, words: &[String]) -> Result<Settings, WordsFault>
 pub fn one_settings()
     ensures { OneSettings }
 {}
-
-#[cfg(test)]
-mod tests;

@@ -1,0 +1,11 @@
+//! Worked rows of what comes out: facts, answers and printed texts. It has tests alone.
+#![tactic(auto)]
+
+#[cfg(test)]
+mod facts;
+#[cfg(test)]
+mod joins;
+#[cfg(test)]
+mod printing;
+#[cfg(test)]
+mod walks;

@@ -1,0 +1,17 @@
+//! Assertions, each of which is proved once.
+ghost use Rattle.std.specs.Prelude.{◌≡◌, true};
+
+use std::fmt::Debug;
+use std::process::Abort;
+
+/// Asserts that what is found in the row of the text is what is wanted.
+pub(crate) fn equal<T: PartialEq + Debug + Drop>(rt: &impl Abort, found: T, wanted: T, text: &str) {
+    assert_eq!(rt; found, wanted, "{text}");
+}
+
+/// Asserts that it holds.
+pub(crate) fn holds(rt: &impl Abort, found: bool)
+    ensures { found ≡ true }
+{
+    assert!(rt; found);
+}

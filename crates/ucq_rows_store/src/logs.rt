@@ -1,0 +1,195 @@
+//! Entries of a log, which threads share.
+ghost use Rattle.std.specs.Prelude.{◌≡◌, ◌≤◌, length, IfOk, All};
+ghost use Rattle.ucq_log.specs.Log.{IsOf};
+
+use crate::asserts::{equal, holds};
+use std::alloc::Global;
+use std::sync::Wait;
+use std::test::Fail;
+use std::thread;
+use std::thread::Threads;
+use ucq_hom::HomSpace;
+use ucq_log::laws::entries_agree;
+use ucq_log::{Entry, Log, Seen, Unkept};
+use ucq_terms::Query;
+use ucq_worked::query;
+
+/// The entry of the row and the query of the text.
+fn added<R: Wait>(rt: &R, alloc: Global, log: &Log, row: u32, text: &str) -> Result<Entry, Fail>
+    ensures { IfOk result (λ e. IsOf log.now e) }
+{
+    match log.add(rt, row, query(alloc, text)?) {
+        Ok(entry) => Ok(entry),
+        Err(_) => Err("no memory")?,
+    }
+}
+
+/// What is seen.
+#[derive(Debug, PartialEq, Eq, Clone, Copy)]
+enum Found {
+    Own { place: u32 },
+    /// An entry of that row, which is at that place of the log, and whether its query is the one that is looked for there.
+    Other { row: u32, place: u64, same: bool },
+}
+
+/// The entry of that row, which is at that place.
+fn other(row: u32, place: u64) -> Option<Found> {
+    Some(Found::Other {
+        row,
+        place,
+        same: true,
+    })
+}
+
+/// What is seen of the first text, where the second is that of an entry which may be found.
+fn seen(
+    alloc: Global,
+    log: &Log,
+    own: &[Entry],
+    text: &str,
+    there: &str,
+) -> Result<Option<Found>, Fail>
+    requires few { length own.now ≤ 65536 }
+    requires ours { All (λ e. IsOf log.now e) own.now }
+{
+    let mut space = HomSpace::new(alloc)?;
+    let there = query(alloc, there)?;
+    Ok(match log.seen(&mut space, own, &query(alloc, text)?) {
+        Some(Seen::Own { place }) => Some(Found::Own { place }),
+        Some(Seen::Other { entry }) => Some(Found::Other {
+            row: log.row(&entry),
+            place: entry.place(),
+            same: log.value(&entry).same(&there),
+        }),
+        None => None,
+    })
+}
+
+#[test]
+fn own_entries_are_seen_first(rt: HostRuntime) -> Result<(), Fail> {
+    let log = Log::new(rt.alloc())?;
+    let own = [added(&rt, rt.alloc(), &log, 1, "? pX")?];
+    let found = seen(rt.alloc(), &log, &own, "? pa", "? pX")?;
+    equal(&rt, found, Some(Found::Own { place: 0 }), "pa");
+    equal(
+        &rt,
+        seen(rt.alloc(), &log, &own, "? qa", "? pX")?,
+        None,
+        "qa",
+    );
+    Ok(())
+}
+
+#[test]
+fn other_entries_are_found(rt: HostRuntime) -> Result<(), Fail> {
+    let log = Log::new(rt.alloc())?;
+    added(&rt, rt.alloc(), &log, 1, "? pX")?;
+    let found = seen(rt.alloc(), &log, &[], "? pa", "? pX")?;
+    equal(&rt, found, other(1, 0), "pa");
+    equal(
+        &rt,
+        seen(rt.alloc(), &log, &[], "? qa", "? pX")?,
+        None,
+        "qa",
+    );
+    Ok(())
+}
+
+#[test]
+fn the_newest_is_found(rt: HostRuntime) -> Result<(), Fail> {
+    let log = Log::new(rt.alloc())?;
+    added(&rt, rt.alloc(), &log, 1, "? pX")?;
+    added(&rt, rt.alloc(), &log, 2, "? pX")?;
+    let own = [added(&rt, rt.alloc(), &log, 3, "? qX")?];
+    let found = seen(rt.alloc(), &log, &own, "? pa", "? pX")?;
+    equal(&rt, found, other(2, 1), "pa");
+    Ok(())
+}
+
+/// The entry of the row and the query, as it was added and as it is found.
+fn twice<R: Wait>(rt: &R, alloc: Global, log: &Log) -> Result<(Entry, Entry), Fail>
+    ensures added { IfOk result (λ r. IsOf log.now r.0) }
+    ensures found { IfOk result (λ r. IsOf log.now r.1) }
+{
+    let mut space = HomSpace::new(alloc)?;
+    let entry = added(rt, alloc, log, 1, "? pX")?;
+    match log.seen(&mut space, &[], &query(alloc, "? pa")?) {
+        Some(Seen::Other { entry: other }) => Ok((entry, other)),
+        _ => Err("not found")?,
+    }
+}
+
+#[test]
+fn entries_of_one_place_agree(rt: HostRuntime) -> Result<(), Fail> {
+    let log = Log::new(rt.alloc())?;
+    let (first, second) = twice(&rt, rt.alloc(), &log)?;
+    assert!(rt; first.place() == second.place());
+    entries_agree(&log, &first, &second);
+    Ok(())
+}
+
+/// Two threads add to one log.
+fn added_by_two<R: Threads + Wait + Sync>(
+    rt: &R,
+    log: &Log,
+    one: Query,
+    other: Query,
+) -> (Result<Entry, Unkept>, Result<Entry, Unkept>)
+    ensures one { IfOk result.0 (λ e. IsOf log.now e) }
+    ensures other { IfOk result.1 (λ e. IsOf log.now e) }
+{
+    thread::join(
+        rt,
+        move || -> Result<Entry, Unkept>
+            ensures { IfOk result (λ e. IsOf log.entry.now e) }
+        { log.add(rt, 1, one) },
+        move || -> Result<Entry, Unkept>
+            ensures { IfOk result (λ e. IsOf log.entry.now e) }
+        { log.add(rt, 2, other) },
+    )
+}
+
+/// The row of the entry, and whether its query is that of the text.
+fn told(
+    alloc: Global,
+    log: &Log,
+    entry: &Result<Entry, Unkept>,
+    text: &str,
+) -> Result<Option<(u32, bool)>, Fail>
+    requires { IfOk entry.now (λ e. IsOf log.now e) }
+{
+    let wanted = query(alloc, text)?;
+    match entry {
+        Ok(entry) => Ok(Some((log.row(entry), log.value(entry).same(&wanted)))),
+        Err(_) => Ok(None),
+    }
+}
+
+/// Whether both were added, at different places.
+fn are_apart(first: &Result<Entry, Unkept>, second: &Result<Entry, Unkept>) -> bool {
+    match (first, second) {
+        (Ok(first), Ok(second)) => first.place() != second.place(),
+        _ => false,
+    }
+}
+
+#[test]
+fn threads_share_a_log(rt: HostRuntime) -> Result<(), Fail> {
+    let log = Log::new(rt.alloc())?;
+    let (one, other) = (query(rt.alloc(), "? pX")?, query(rt.alloc(), "? qa")?);
+    let (first, second) = added_by_two(&rt, &log, one, other);
+    equal(
+        &rt,
+        told(rt.alloc(), &log, &first, "? pX")?,
+        Some((1, true)),
+        "first",
+    );
+    equal(
+        &rt,
+        told(rt.alloc(), &log, &second, "? qa")?,
+        Some((2, true)),
+        "second",
+    );
+    holds(&rt, are_apart(&first, &second));
+    Ok(())
+}

@@ -1,4 +1,0 @@
-//! Tests.
-mod generated;
-mod plain;
-mod rows;
