@@ -1,3 +1,4 @@
 pub mod Shrunk
 pub mod Renamings
 pub mod Placings
+pub mod Forms

@@ -4,9 +4,11 @@
 mod agreement;
 mod cores;
 mod isomorphism;
+mod normal;
 mod placing;
 mod shrinking;
 
 pub use cores::is_core;
 pub use isomorphism::isomorphic;
+pub use normal::normal_form;
 pub use shrinking::shrink;

@@ -13,6 +13,6 @@ mod search;
 pub mod signature;
 mod space;
 
-pub use order::order_atoms;
+pub use order::{number, order_atoms};
 pub use signature::Signature;
 pub use space::{HomSpace, covers, find_without};

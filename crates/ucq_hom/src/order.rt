@@ -47,7 +47,7 @@ fn most_bound(marks: &[bool], atoms: &[Atom], order: &[u32], at: usize, first: u
 }
 
 /// Writes the numbers from 0 on.
-fn number(order: &mut [u32])
+pub fn number(order: &mut [u32])
     requires { length order.old ≤ 128 }
     ensures { (k : ℕ) → k < length order.new → slice_index order.new k ≡ k }
 {

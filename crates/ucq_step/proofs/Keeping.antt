@@ -35,3 +35,7 @@ HasKept-insert_key before after core e = go (list_any (query_eq core) before) re
     go : (b : Bool) → list_any (query_eq core) before ≡ b → after ≡ (if b then before else before ++ core ∷ []) → HasKept before core after
     go true h e = subst (HasKept before core) (sym e) (HasKept-held before core h)
     go false h e = subst (HasKept before core) (sym e) (HasKept-new before core)
+
+-- a key that was there before
+pub Contains-held : (before : List Query) (core : Query) → list_any (query_eq core) before ≡ true → Contains before core
+Contains-held before core e = (HasKept-held before core e).there

@@ -11,3 +11,4 @@ pub mod Told
 pub mod Ranks
 pub mod Walking
 pub mod Keeping
+pub mod Cores

@@ -16,7 +16,7 @@ use Rattle.ucq_fold.proofs.Renamings.{Covers-forth, Covers-back}
 use Rattle.ucq_unify.specs.Pieces.{AreSinglePieces}
 use Rattle.ucq_join.specs.Walk.{piece_member, members_at, IsJoin, ComesAfter, Walk, IsNext, IsLast}
 use Rattle.ucq_step.specs.Steps.{IsRewriting, IsCoreOfStep, IsCoveredBy, IsNarrow, AreSteps, IsTooWide, IsRewrittenAt, IsCoreAt, HasCoreAt, AreCoresUpTo}
-use Rattle.ucq_step.specs.Kept.{AreDifferent, HasKept}
+use Rattle.ucq_step.specs.Kept.{AreDifferent, HasAddedCore}
 use Rattle.ucq_step.proofs.Chosen.{chosen_places, chosen_join, chosen_permuted}
 use Rattle.ucq_step.proofs.Renamed.{AreIsomorphic-rewritten}
 use Rattle.ucq_step.proofs.Widths.{width_same, HasWidth-each_once}
@@ -140,15 +140,16 @@ AreCoresUpTo-none q rule pieces = record {
     after_none [] h = absurd (omega arith)
     after_none (p ∷ ps) h = tt
 
--- With the core of the next set they are those up to it.
-pub AreCoresUpTo-more : (w : Walk) (next : List ℕ) (core : Query) (before after : List Query) → IsNext w next → HasKept before core after →
-    IsCoreAt w.query w.rule w.pieces next core → AreCoresUpTo w.query w.rule w.pieces w.present before → AreCoresUpTo w.query w.rule w.pieces next after
-AreCoresUpTo-more w next core before after N K C U = record {
+-- With the core of the next set's rewriting they are those up to it.
+pub AreCoresUpTo-more : (w : Walk) (next : List ℕ) (stored : Query) (before after : List Query) → IsNext w next → HasAddedCore before stored after →
+    IsRewrittenAt w.query w.rule w.pieces next stored → AreCoresUpTo w.query w.rule w.pieces w.present before → AreCoresUpTo w.query w.rule w.pieces next after
+AreCoresUpTo-more w next stored before after N K W U = record {
   each = λ other c. ⊎_elim (λ i. U.each other i)
-      (λ e. subst (IsCoreOfStep w.query w.rule) (sym e) (IsCoreOfStep-at w.query w.rule w.pieces next core C)) (K.only other c);
+      (λ C. IsCoreOfStep-at w.query w.rule w.pieces next other (IsCoreAt-shrunk w.query w.rule w.pieces next stored other W C)) (K.only other c);
   all = λ places J. ⊎_elim
       (λ later. ⊎_elim
-      (λ e. inr (subst (λ (ps : List ℕ). HasCoreAt w.query w.rule w.pieces after ps) e (record { core = core; among = K.there; at = C })))
+      (λ e. inr (subst (λ (ps : List ℕ). HasCoreAt w.query w.rule w.pieces after ps) e
+      (record { core = K.there.core; among = K.there.among; at = IsCoreAt-shrunk w.query w.rule w.pieces next stored K.there.core W K.there.shrunk })))
       (λ l. inl l) (N.least places J later))
       (λ (H : HasCoreAt w.query w.rule w.pieces before places). inr (record { core = H.core; among = K.kept H.core H.among; at = H.at })) (U.all places J);
 }

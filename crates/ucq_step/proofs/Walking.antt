@@ -7,8 +7,8 @@ use Rattle.ucq_unify.specs.Pieces.{AreSinglePieces}
 use Rattle.ucq_join.specs.Names.{Named}
 use Rattle.ucq_join.specs.Walk.{ArePieces, IsJoinOf, Walk, GoesOn, IsLast}
 use Rattle.ucq_step.specs.Building.{IsTold}
-use Rattle.ucq_step.specs.Kept.{AreDifferent, HasKept}
-use Rattle.ucq_step.specs.Steps.{IsCoreAt, AreCoresUpTo, AreSteps}
+use Rattle.ucq_step.specs.Kept.{AreDifferent, HasAddedCore}
+use Rattle.ucq_step.specs.Steps.{IsRewrittenAt, AreCoresUpTo, AreSteps}
 use Rattle.ucq_step.proofs.Ranks.{left_of, left_of-next}
 use Rattle.ucq_step.proofs.Stepped.{AreCoresUpTo-more, AreCoresUpTo-none, AreSteps-last}
 
@@ -52,12 +52,12 @@ module _ (before after : Walk) (j : Named) (q : Query) (rule : Rule) (pieces : L
       (left_of-next before j.members (to_walk ArePieces before q rule pieces W (ArePieces-single q rule pieces S)) here G.next.join G.next.after)
 
   -- the cores are those up to the set
-  pub AreCoresUpTo-next : (core : Query) (kept more : List Query) → IsCoreAt q rule pieces j.members core → HasKept kept core more →
+  pub AreCoresUpTo-next : (stored : Query) (kept more : List Query) → IsRewrittenAt q rule pieces j.members stored → HasAddedCore kept stored more →
       AreCoresUpTo before.query before.rule before.pieces before.present kept → AreCoresUpTo after.query after.rule after.pieces after.present more
-  AreCoresUpTo-next core kept more C K U =
+  AreCoresUpTo-next stored kept more C K U =
       subst (λ (w : Walk). AreCoresUpTo w.query w.rule w.pieces w.present more) (sym G.stands)
-      (AreCoresUpTo-more before j.members core kept more G.next K
-      (to_walk (λ q rule pieces. IsCoreAt q rule pieces j.members core) before q rule pieces W C) U)
+      (AreCoresUpTo-more before j.members stored kept more G.next K
+      (to_walk (λ q rule pieces. IsRewrittenAt q rule pieces j.members stored) before q rule pieces W C) U)
 
 -- at the end they are the answer
 pub AreSteps-end : (w : Walk) (q : Query) (rule : Rule) (pieces : List (List (ℕ × ℕ))) (cores : List Query) → WalksIn w q rule pieces →

@@ -5,6 +5,7 @@ use Rattle.std.proofs.Common.{ap}
 use Rattle.ucq_terms.specs.declared.Term.{Term}
 use Rattle.ucq_terms.specs.declared.Term.TheVariants.{Constant, Variable}
 use Rattle.ucq_terms.specs.Syntax.{Atom, Query}
+use Rattle.ucq_terms.specs.Homomorphism.{IsCoreOf, IsEquivalent}
 use Rattle.ucq_terms.specs.Equality.{query_eq, Decides-query_eq}
 
 -- no two of the cores are equal
@@ -16,6 +17,32 @@ pub record HasKept (before : List Query) (core : Query) (after : List Query) : T
   pub kept : (other : Query) → Contains before other → Contains after other
   pub there : Contains after core
   pub only : (other : Query) → Contains after other → Contains before other ⊎ (other ≡ core)
+
+-- one of the queries is equivalent to this one
+pub record HasEquivalent (queries : List Query) (query : Query) : Type 0 where
+  pub other : Query
+  pub among : Contains queries other
+  pub equivalent : IsEquivalent query other
+
+-- the second list has no more queries than the first, but for one that is equivalent to this one
+pub record AreMore (before : List Query) (query : Query) (after : List Query) : Type 0 where
+  pub only : (other : Query) → Contains after other → Contains before other ⊎ IsEquivalent query other
+
+-- one of the cores is the query's
+pub record HasCore (cores : List Query) (query : Query) : Type 0 where
+  pub core : Query
+  pub among : Contains cores core
+  pub shrunk : IsCoreOf query core
+
+-- each of the queries has a core
+pub record HaveCores (queries cores : List Query) : Type 0 where
+  pub each : (query : Query) → Contains queries query → HasCore cores query
+
+-- the second list has the cores of the first, and one of the query, and no others but such
+pub record HasAddedCore (before : List Query) (query : Query) (after : List Query) : Type 0 where
+  pub kept : (other : Query) → Contains before other → Contains after other
+  pub there : HasCore after query
+  pub only : (other : Query) → Contains after other → Contains before other ⊎ IsCoreOf query other
 
 -- a number of 64 bits after another one is stirred in
 abbrev pub stirred : ℕ → ℕ → ℕ

@@ -72,10 +72,6 @@ pub record IsCoreAt (q : Query) (rule : Rule) (pieces : List (List (ℕ × ℕ))
   pub shrunk : IsCoreOf rewriting core
   pub narrow : IsNarrow rewriting
 
-abbrev pub IsCoreResult : Query → Rule → List (List (ℕ × ℕ)) → List ℕ → Result Query StepFault → Type 0
-IsCoreResult q rule pieces places (Ok core) = IsCoreAt q rule pieces places core
-IsCoreResult q rule pieces places (Err fault) = IsStepFault q rule fault
-
 -- one of the cores is of a rewriting by the pieces at these places
 pub record HasCoreAt (q : Query) (rule : Rule) (pieces : List (List (ℕ × ℕ))) (cores : List Query) (places : List ℕ) : Type 0 where
   pub core : Query

@@ -1,5 +1,5 @@
 //! Cores that are kept.
-ghost use Rattle.std.specs.Prelude.{◌≡◌, ◌<◌, ◌^◌, [], OnOk, IfOk};
+ghost use Rattle.std.specs.Prelude.{◌≡◌, ◌<◌, ◌^◌, [], false, Contains, OnOk, IfOk};
 ghost use Rattle.ucq_step.specs.Kept.{AreDifferent, HasKept, stirred, term_number, terms_print, atoms_print, query_print};
 
 use indexmap::IndexSet;
@@ -125,12 +125,13 @@ impl Kept {
         }
     }
 
-    /// Keeps the query, unless an equal one is kept.
-    pub fn keep(&mut self, query: Query) -> Result<(), NoMemory>
-        ensures { OnOk result (HasKept self.old query self.new) }
+    /// Keeps the query, unless an equal one is kept, and tells whether it is new.
+    pub fn keep(&mut self, query: Query) -> Result<bool, NoMemory>
+        ensures kept { OnOk result (HasKept self.old query self.new) }
+        ensures held { IfOk result (λ is_new. is_new ≡ false → Contains self.old query) }
     {
-        let _ = self.cores.insert(Core { query })?;
-        Ok(())
+        let is_new = self.cores.insert(Core { query })?;
+        Ok(is_new)
     }
 
     /// The queries, in the order in which they came.

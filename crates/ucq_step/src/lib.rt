@@ -4,11 +4,10 @@
 //! rules*, Semantic Web 6, 2015.
 #![tactic(auto)]
 
-ghost use Rattle.std.specs.Prelude.{◌≡◌};
+ghost use Rattle.std.specs.Prelude.{◌≡◌, false, OnOk, IfOk};
 ghost use Rattle.ucq_hom.specs.Space.{IsClear};
-ghost use Rattle.ucq_join.specs.Walk.{ArePieces};
-ghost use Rattle.ucq_step.specs.Building.{IsTold};
-ghost use Rattle.ucq_step.specs.Steps.{IsStepResult, IsCoreResult};
+ghost use Rattle.ucq_step.specs.Kept.{AreMore, HasEquivalent, HaveCores, HasAddedCore};
+ghost use Rattle.ucq_step.specs.Steps.{IsStepResult};
 ghost use Rattle.ucq_step.specs.declared.StepFault.TheVariants.{Memory};
 
 mod kept;
@@ -17,10 +16,10 @@ mod rewriting;
 use kept::Kept;
 use rewriting::rewrite;
 use std::alloc::{AllocError, AllocFailed, Global};
-use ucq_fold::shrink;
+use ucq_fold::{normal_form, shrink};
 use ucq_hom::HomSpace;
-use ucq_join::{Joined, Joins};
-use ucq_terms::{NoMemory, Piece, Query, Rule};
+use ucq_join::Joins;
+use ucq_terms::{NoMemory, Query, Rule};
 use ucq_unify::single_pieces;
 
 /// What a step gives: each core is a core of a one-step rewriting, and each one-step rewriting is covered by one of them.
@@ -63,24 +62,47 @@ impl From<NoMemory> for StepFault {
     }
 }
 
-/// The core of the rewriting of the query by the pieces that are joined.
-fn core_by(
+/// Whether no form that was kept shows that the rewriting is one of those before but for names and order. Its own form is
+/// kept too, unless it is the only rewriting.
+fn is_new(
+    alloc: Global,
+    forms: &mut Kept,
+    rewriting: &Query,
+    is_only: bool,
+) -> Result<bool, NoMemory>
+    ensures more { OnOk result (AreMore forms.old rewriting.now forms.new) }
+    ensures held { IfOk result (λ is_new. is_new ≡ false → HasEquivalent forms.old rewriting.now) }
+{
+    if is_only {
+        return Ok(true);
+    }
+    let form = normal_form(alloc, rewriting)?;
+    let is_new = forms.keep(form)?;
+    Ok(is_new)
+}
+
+/// Adds the core of the rewriting to the cores. Where the forms show that an earlier rewriting is the same but for names
+/// and order, the core of that one is its core too, and nothing is folded.
+fn add_core(
     alloc: Global,
     space: &mut HomSpace,
-    query: &Query,
-    rule: &Rule,
-    pieces: &[Piece],
-    joined: &Joined,
-) -> Result<Query, StepFault>
-    requires pieces { ArePieces query.now rule.now pieces.now }
-    requires told { IsTold query.now rule.now pieces.now joined.now }
+    forms: &mut Kept,
+    cores: &mut Kept,
+    mut rewriting: Query,
+    is_only: bool,
+) -> Result<(), NoMemory>
+    requires have { HaveCores forms.old cores.old }
     requires clear { IsClear space.old }
-    ensures core { IsCoreResult query.now rule.now pieces.now joined.now.members result }
+    ensures have { OnOk result (HaveCores forms.new cores.new) }
+    ensures added { OnOk result (HasAddedCore cores.old rewriting cores.new) }
     ensures clear { IsClear space.new }
 {
-    let mut core = rewrite(alloc, query, rule, pieces, joined)?;
-    shrink(space, &mut core);
-    Ok(core)
+    if !is_new(alloc, forms, &rewriting, is_only)? {
+        return Ok(());
+    }
+    shrink(space, &mut rewriting);
+    let _ = cores.keep(rewriting)?;
+    Ok(())
 }
 
 /// The cores of the query's rewritings with the rule, one for each aggregate of single pieces, and none of them twice.
@@ -88,8 +110,9 @@ fn core_by(
 /// `StepFault::Wide` comes exactly where some one-step rewriting has more than `ATOMS` different atoms, and tells the width
 /// of one. The space is left as after a false answer, whatever the result.
 ///
-/// One rewriting is built at a time, and folded at once. So memory grows with the cores that are kept, and time with the
-/// number of aggregates, of which `n` disjoint pieces have `2^n - 1`, and with what it takes to fold their rewritings.
+/// One rewriting is built at a time, and folded at once, unless one before it had the same normal form. So memory grows with
+/// the cores and the forms that are kept, and time with the number of aggregates, of which `n` disjoint pieces have
+/// `2^n - 1`, and with what it takes to fold rewritings of different forms.
 pub fn step(
     alloc: Global,
     space: &mut HomSpace,
@@ -107,10 +130,12 @@ pub fn step(
         });
     }
     let mut joins = Joins::new(alloc, query, rule, pieces.as_slice())?;
+    let is_only = pieces.len() == 1;
+    let mut forms = Kept::new(alloc);
     let mut kept = Kept::new(alloc);
     while let Some(joined) = joins.next()? {
-        let core = core_by(alloc, space, query, rule, pieces.as_slice(), &joined)?;
-        kept.keep(core)?;
+        let rewriting = rewrite(alloc, query, rule, pieces.as_slice(), &joined)?;
+        add_core(alloc, space, &mut forms, &mut kept, rewriting, is_only)?;
     }
     let cores = kept.into_queries(alloc)?;
     Ok(Steps { cores })

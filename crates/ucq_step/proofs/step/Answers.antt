@@ -1,9 +1,11 @@
-use Rattle.std.proofs.Common.{◌≡◌, ℕ, List, [], nat_eq, true, refl, sym, ap, ◌∙◌, subst, inl, inr, Option, Ok, Some, None}
+use Rattle.std.proofs.Common.{◌≡◌, ℕ, List, [], Contains, nat_eq, true, refl, sym, ap, ◌∙◌, subst, inl, inr, Option, Ok, Some, None}
 use Rattle.ucq_terms.specs.Syntax.{Query}
 use Rattle.ucq_unify.specs.Pieces.{AreSinglePieces}
 use Rattle.ucq_join.specs.Names.{Named}
 use Rattle.ucq_join.specs.Walk.{Walk, IsStep, IsLast, GoesOn}
-use Rattle.ucq_step.specs.Steps.{IsCoreAt, AreCoresUpTo, AreSteps}
+use Rattle.ucq_step.specs.Steps.{IsRewrittenAt, AreCoresUpTo, AreSteps}
+use Rattle.ucq_terms.proofs.Lists.{Contains-empty}
+use Rattle.ucq_step.proofs.Cores.{HaveCores-none}
 use Rattle.ucq_step.proofs.Stepped.{AreCoresUpTo-none}
 use Rattle.ucq_step.proofs.Walking.{ArePieces-single, WalksIn-next, stands-next, left_of-less, AreCoresUpTo-next, AreSteps-end, AreSteps-none}
 use Rattle.ucq_step.proofs.step.Goals as goal
@@ -45,6 +47,7 @@ loop-kept-init c =
         same_pieces = refl;
       };
       here = inl start;
+      have = HaveCores-none c.new-kept.result c.new-forms.result (λ form i. Contains-empty form (subst (λ (forms : List Query). Contains forms form) c.new-forms.ensures i));
       cores =
           subst (λ (cores : List Query). AreCoresUpTo w.query w.rule w.pieces w.present cores) (sym c.new-kept.ensures)
           (subst (λ (present : List ℕ). AreCoresUpTo w.query w.rule w.pieces present []) (sym start) (AreCoresUpTo-none w.query w.rule w.pieces));
@@ -71,15 +74,16 @@ loop-kept-preserved c =
     let G : GoesOn before after j = goes_on before after c.in_ok-joined.field-0 j c.in-Some.is c.in_ok-joined.ensures in
     let same : c.as_slice-in-Some.result.now ≡ w.pieces =
     c.as_slice-in-Some.ensures.value ∙ (sym c.as_slice.ensures.value ∙ sym (ap (λ (w : Walk). w.pieces) c.in_ok-joins.ensures)) in
-    let C : IsCoreAt q r w.pieces j.members c.in_ok-core.core =
-    subst (λ (ps : List (List (ℕ × ℕ))). IsCoreAt q r ps j.members c.in_ok-core.core) same c.in_ok-core.ensures.core in
+    let W : IsRewrittenAt q r w.pieces j.members c.in_ok-rewriting.rewriting =
+    subst (λ (ps : List (List (ℕ × ℕ))). IsRewrittenAt q r ps j.members c.in_ok-rewriting.rewriting) same c.in_ok-rewriting.ensures in
     record {
-      clear = c.core_by.ensures.clear;
+      clear = c.add_core.ensures.clear;
       walks = WalksIn-next before after j q r w.pieces c.loop-kept.invariant.walks G;
       here = inr (stands-next before after j q r w.pieces c.loop-kept.invariant.walks G);
+      have = c.in_ok-add_core.ensures.have;
       cores =
-          AreCoresUpTo-next before after j q r w.pieces c.loop-kept.invariant.walks G c.in_ok-core.core c.loop-kept.kept c.keep.new.self C
-          c.in_ok-keep.ensures c.loop-kept.invariant.cores;
+          AreCoresUpTo-next before after j q r w.pieces c.loop-kept.invariant.walks G c.in_ok-rewriting.rewriting c.loop-kept.kept c.add_core.new.cores W
+          c.in_ok-add_core.ensures.added c.loop-kept.invariant.cores;
     }
 
 pub returns-clause-steps : goal.returns-clause-steps
