@@ -4,7 +4,7 @@ use Rattle.std.specs.List.{remove}
 use Rattle.std.proofs.lemmas.List.Elements.{Contains-get_or}
 use Rattle.ucq_terms.specs.declared.Term.{Term}
 use Rattle.ucq_terms.specs.declared.Term.TheVariants.{Variable}
-use Rattle.ucq_terms.specs.Syntax.{Atom, Query, atom_image}
+use Rattle.ucq_terms.specs.Syntax.{Atom, Query, IsSubset, atom_image, atoms_image}
 use Rattle.ucq_terms.specs.Homomorphism.{IsHomomorphism, MapsInto}
 use Rattle.ucq_terms.specs.Query.{IsStored}
 use Rattle.ucq_terms.specs.Unifier.{atom_at}
@@ -87,3 +87,9 @@ ArePlaces-one atoms place l = record { within = λ x i. elim (Contains-cons_case
 pub remove_past : (xs : List Atom) → remove xs (length xs) ≡ xs
 remove_past [] = refl
 remove_past (x ∷ xs) = ap (λ l. x ∷ l) (remove_past xs)
+
+-- where some atom has no image under the answers, there is none
+pub none_by_images : (a b : Bound) (q : Query) (targets : List Atom) (tuple : List Term) → IsClear a.images → IsMatched a b q.answers tuple →
+    ((h : ℕ → Term) → Extends h b → IsSubset (atoms_image h q.atoms) targets → ⊥) → MapsInto q targets tuple → ⊥
+none_by_images a b q targets tuple clear m none s =
+    none s.mapping (m.forced s.mapping (Extends-clear s.mapping a clear) s.homomorphism.answers) s.homomorphism.atoms

@@ -6,6 +6,7 @@
 #![tactic(auto)]
 
 pub mod bindings;
+mod images;
 mod levels;
 pub mod matching;
 mod order;

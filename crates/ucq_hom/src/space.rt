@@ -5,6 +5,7 @@ ghost use Rattle.ucq_terms.specs.declared.TheConstants.{ATOMS, VARIABLES};
 ghost use Rattle.ucq_hom.specs.Space.{image, IsClear, GivesHomomorphism};
 
 use crate::bindings::Bindings;
+use crate::images::have_images;
 use crate::levels::note_since;
 use crate::matching::match_terms;
 use crate::order::order_atoms;
@@ -101,12 +102,30 @@ fn find(
     false
 }
 
+/// Whether some map that keeps the answers may send each atom of the one query, by itself, to one of the other. Mostly where
+/// no homomorphism leads from the one to the other this is not so, and that is told without an order of the atoms.
+fn may_map(bindings: &mut Bindings, from: &Query, to: &Query) -> bool
+    ensures none { result ≡ false → Covers from.now to.now → ⊥ }
+    ensures clear { IsClear bindings.new.images }
+{
+    bindings.clear();
+    if !match_terms(bindings, from.answers(), to.answers()) {
+        return false;
+    }
+    let found = have_images(bindings, from.atoms(), to.atoms());
+    bindings.clear();
+    found
+}
+
 /// Whether a homomorphism leads from the one query to the other. If so, `image_of` tells it.
 pub fn covers(space: &mut HomSpace, from: &Query, to: &Query) -> bool
     ensures covers { IsTrue result ↔ Covers from.now to.now }
     ensures found { result ≡ true → GivesHomomorphism space.new from.now to.now.atoms to.now.answers }
     ensures clear { result ≡ false → IsClear space.new }
 {
+    if !may_map(&mut space.bindings, from, to) {
+        return false;
+    }
     let atoms = to.atoms();
     find(
         &mut space.bindings,
