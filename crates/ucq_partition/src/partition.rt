@@ -1,6 +1,6 @@
 //! Partitions.
 ghost use Rattle.std.specs.Prelude.{◌≡◌, ◌<◌, ◌≤◌, ◌^◌, ◌++◌, ◌↔◌, ℕ, List, [], ◌∷◌, length, IfOk, IsTrue, slice_index, nat_eq, if◌then◌else◌};
-ghost use Rattle.ucq_partition.specs.Partition.{AreLinked, IsMadeBy, relabelled};
+ghost use Rattle.ucq_partition.specs.Partition.{AreLinked, IsMadeBy, label_of, relabelled};
 
 use crate::NoMemory;
 use std::alloc::Global;
@@ -70,6 +70,7 @@ impl Partition {
     /// The least number of the class of this one.
     pub fn label(&self, a: u32) -> u32
         requires { a < length self.now }
+        ensures value { result ≡ label_of self.now a }
         ensures linked { (joins : List (ℕ × ℕ)) → IsMadeBy joins self.now → AreLinked joins a result }
         ensures least { (joins : List (ℕ × ℕ)) (b : ℕ) → IsMadeBy joins self.now → AreLinked joins a b → result ≤ b }
     {

@@ -1,0 +1,4 @@
+pub mod Prefixes
+pub mod Numbers
+pub mod Classed
+pub mod Clashes
