@@ -3,7 +3,7 @@ ghost use Rattle.std.specs.Prelude.{◌≡◌, ◌<◌, ◌++◌, ◌↔◌, [],
 ghost use Rattle.ucq_partition.specs.Partition.{label_of};
 ghost use Rattle.ucq_terms.specs.Unifier.{Node as NodeValue, AreJoined, HasNoClash};
 ghost use Rattle.ucq_classes.specs.Numbers.{size, IsNumbered, IsNumbering, NumbersAtom, NumbersHead, node_of};
-ghost use Rattle.ucq_classes.specs.Classes.{IsClassed, atom_links};
+ghost use Rattle.ucq_classes.specs.Classes.{IsWhole, IsClassed, atom_links};
 
 use crate::nodes::{term_of_copy, term_of_query};
 use crate::{Node, Numbering};
@@ -47,6 +47,7 @@ impl<'n> Classes<'n> {
     /// The numbering.
     pub fn numbering(&self) -> &Numbering
         ensures numbers { result.now ≡ self.now.numbers }
+        ensures whole { IsWhole self.now }
     {
         self.numbering
     }

@@ -3,6 +3,7 @@ ghost use Rattle.std.specs.Prelude.{◌≡◌, ◌≢◌, ◌<◌, ◌≤◌, �
 ghost use Rattle.std.specs.List.{position_or_len};
 ghost use Rattle.ucq_terms.specs.declared.Term.TheVariants.{Constant};
 ghost use Rattle.ucq_terms.specs.Syntax.{OccursIn};
+ghost use Rattle.ucq_terms.specs.Query.{IsStored};
 ghost use Rattle.ucq_classes.specs.Numbers.{Numbers, first, size, number, width_of, IsNumbered, IsNumbering, NumbersQuery, node_of};
 
 use crate::Node;
@@ -35,6 +36,7 @@ impl Numbering {
     /// The terms of the query, and no copies.
     pub fn new(alloc: Global, query: &Query) -> Result<Numbering, NoMemory>
         ensures query { IfOk result (λ n. NumbersQuery n query.now) }
+        ensures stored { IsStored query.now }
         ensures no_copies { IfOk result (λ n. n.widths ≡ []) }
         ensures few_constants { IfOk result (λ n. length n.constants ≤ 2048) }
         ensures few_variables { IfOk result (λ n. n.variables ≤ 4096) }
@@ -91,6 +93,14 @@ impl Numbering {
         ensures { result ≡ self.now.variables }
     {
         self.variables
+    }
+
+    /// A bound above the variables of the copy.
+    pub fn width(&self, copy: u32) -> u32
+        requires { copy < length self.now.widths }
+        ensures { result ≡ width_of self.now copy }
+    {
+        self.widths[copy as usize]
     }
 
     /// The first number of the copy.

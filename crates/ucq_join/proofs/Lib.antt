@@ -1,5 +1,4 @@
-pub mod Prefixes
-pub mod Numbers
+pub mod Even
 pub mod Orders
 pub mod Sets
 pub mod Overlaps

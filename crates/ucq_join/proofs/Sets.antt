@@ -15,7 +15,8 @@ use Rattle.ucq_terms.proofs.Distinct.{IsDistinct, length-distinct_le}
 use Rattle.ucq_terms.proofs.Lists.{All-from_contains, Contains-from_map, Contains-empty, Contains-cons_cases}
 use Rattle.ucq_terms.proofs.Pairwise.{AllPairs-append, AllPairs-map}
 use Rattle.ucq_terms.proofs.Places.{Contains-places}
-use Rattle.ucq_join.specs.Table.{KeepsEach, atom_links}
+use Rattle.ucq_classes.specs.Classes.{atom_links}
+use Rattle.ucq_join.specs.Copies.{KeepsEach}
 use Rattle.ucq_join.specs.Walk.{piece_member, members_at, links_at, IsJoin, ArePieces}
 
 -- What holds of each two elements of a list holds of those before the last, and of each of these with it.

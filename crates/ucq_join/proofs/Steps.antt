@@ -1,15 +1,15 @@
 -- How the search for the next set goes on, and what it finds.
 use Rattle.std.proofs.Common.{◌≡◌, ◌<◌, ◌≤◌, ◌+◌, ◌-◌, ℕ, Bool, true, false, List, [], ◌∷◌, ◌++◌, length, Contains, AllPairs, ◌⊎◌, Some, None, get_or, nat_eq, cond, eqb-true, refl, sym, ap, ◌∙◌, subst, inl, inr, arith}
 use Rattle.std.proofs.Math.Seq.{get_or-append_seam}
-use Rattle.std.proofs.lemmas.List.{append_assoc, length-append}
+use Rattle.std.proofs.lemmas.List.{append_assoc, length-append, length-map}
 use Rattle.std.proofs.lemmas.List.Elements.{Contains-append_left, Contains-push, Contains-push_cases}
 use Rattle.ucq_terms.proofs.Lists.{Contains-empty}
-use Rattle.ucq_join.specs.Walk.{Walk, ComesAfter, IsJoinOf, ArePieces, IsNext, IsLast, GoesOn, members_at, links_at}
+use Rattle.ucq_join.specs.Walk.{Walk, ComesAfter, IsJoinOf, ArePieces, IsNext, IsLast, GoesOn, piece_member, members_at, links_at}
 use Rattle.ucq_join.specs.Search.{start_of, IsStart, IsFirstFrom, IsAdvanced}
 use Rattle.ucq_join.specs.Names.{Named, TellsNames}
 use Rattle.ucq_join.specs.Naming.{IsNamed}
-use Rattle.ucq_join.specs.Table.{size, IsTableOf, IsClassed}
-use Rattle.ucq_join.specs.declared.table.Table.{Table}
+use Rattle.ucq_join.specs.Copies.{IsWidthOf, IsReadyFor}
+use Rattle.ucq_classes.specs.Classes.{Labels, IsClassed}
 use Rattle.ucq_join.proofs.Tells.{TellsNames-named}
 use Rattle.ucq_join.proofs.Orders.{GoesBeyond, beyond_after, beyond_rising, beyond_gap, after_beyond, beyond_dropped, beyond_nothing, IsBeginning, after_beginning, beginning_all, beginning_dropped}
 use Rattle.ucq_join.proofs.Sets.{IsJoin-left, AllPairs-last, start_within}
@@ -172,12 +172,12 @@ found_last w members true e a = cc
 found_last w members false e a = a
 
 -- the next set with its names
-pub GoesOn-named : (w : Walk) (t : Table) (labels members : List ℕ) (j : Named) → IsTableOf w.query w.rule t → IsNext w members → IsNamed t labels members j →
-    IsClassed t (length members) (links_at w.query w.rule w.pieces members) labels → size t (length members) ≤ length labels →
-    GoesOn w (record w { present = members }) j
-GoesOn-named w t labels members j h n named classed room = record {
+pub GoesOn-named : (w : Walk) (c : Labels) (members : List ℕ) (j : Named) → IsReadyFor w.query w.rule c.numbers → IsWidthOf w.rule j.width → IsNext w members →
+    IsNamed c members j → IsClassed (links_at w.query w.rule w.pieces members) c → GoesOn w (record w { present = members }) j
+GoesOn-named w c members j h wide n named classed = record {
   next = subst (IsNext w) (sym named.members) n;
   names = subst (λ (xs : List ℕ). TellsNames w.query w.rule (members_at w.pieces xs) j) (sym named.members)
-      (TellsNames-named w.query w.rule t labels members j (members_at w.pieces members) h named classed room n.join.aggregate.no_clash);
+      (TellsNames-named w.query w.rule c members j (members_at w.pieces members) h wide (length-map members (piece_member w.pieces)) named classed
+      n.join.aggregate.no_clash);
   stands = ap (λ (xs : List ℕ). record w { present = xs }) (sym named.members);
 }

@@ -1,5 +1,5 @@
 pub mod Names
 pub mod Walk
-pub mod Table
+pub mod Copies
 pub mod Search
 pub mod Naming

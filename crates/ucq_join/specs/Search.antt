@@ -2,7 +2,9 @@
 use Rattle.std.specs.Prelude.{◌≡◌, ◌<◌, ◌≤◌, ◌⊎◌, ◌++◌, ◌+◌, ◌-◌, slice_index, if◌then◌else◌, ℕ, List, [], ◌∷◌, length, Contains, Bool, true, false, Option, Some, None, nat_eq}
 use Rattle.std.specs.List.{list_any}
 use Rattle.ucq_terms.specs.Syntax.{Query, Rule}
-use Rattle.ucq_join.specs.Walk.{IsJoin, Walk, IsNext, IsLast}
+use Rattle.ucq_classes.specs.Numbers.{Numbers}
+use Rattle.ucq_join.specs.Walk.{ArePieces, IsJoin, Walk, IsNext, IsLast}
+use Rattle.ucq_join.specs.Copies.{IsWidthOf, IsReadyFor}
 
 -- whether a pair has the place of the query's atom
 abbrev pub has_place : List (ℕ × ℕ) → ℕ → Bool
@@ -32,3 +34,10 @@ IsFirstFrom q rule pieces members start (Some first) =
 abbrev pub IsAdvanced : Walk → List ℕ → Bool → Type 0
 IsAdvanced w members true = IsNext w members
 IsAdvanced w members false = IsLast w
+
+-- what a walk keeps besides: numbers for the query and the rule, and a width for copies of the rule
+pub record IsWalking (w : Walk) (n : Numbers) (width : ℕ) : Type 0 where
+  pub pieces : ArePieces w.query w.rule w.pieces
+  pub ready : IsReadyFor w.query w.rule n
+  pub width_of : IsWidthOf w.rule width
+  pub present : (w.present ≡ []) ⊎ IsJoin w.query w.rule w.pieces w.present

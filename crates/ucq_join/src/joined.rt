@@ -2,13 +2,13 @@
 ghost use Rattle.std.specs.Prelude.{◌≡◌, ◌<◌, ◌≤◌, ◌^◌, length, vec_len, IfOk};
 ghost use Rattle.ucq_terms.specs.Unifier.{of_query, of_copy};
 ghost use Rattle.ucq_join.specs.Names.{name_of};
-ghost use Rattle.ucq_join.specs.Table.{size};
+ghost use Rattle.ucq_classes.specs.Numbers.{size};
+ghost use Rattle.ucq_join.specs.Copies.{HasWidth};
 ghost use Rattle.ucq_join.specs.Naming.{name_by, AreNames, IsNamed};
 
-use crate::table::Table;
 use std::alloc::Global;
 use std::marker::Model;
-use ucq_partition::Partition;
+use ucq_classes::Classes;
 use ucq_terms::{NoMemory, Term};
 
 /// A set of pieces that make an aggregate, and the map of a one-step rewriting by it: a name for each class of the members'
@@ -70,40 +70,38 @@ fn name(constants: &[u32], label: u32) -> Term
 }
 
 /// The names of the numbers by their classes.
-fn names(
-    alloc: Global,
-    classes: &Partition,
-    table: &Table,
-    size: u32,
-) -> Result<Vec<Term>, NoMemory>
-    requires { size ≤ length classes.now }
-    ensures { IfOk result (λ names. AreNames table.now.constants.items classes.now size names.items) }
+fn names(alloc: Global, classes: &Classes, count: u32) -> Result<Vec<Term>, NoMemory>
+    requires { count ≤ size classes.now.numbers }
+    ensures { IfOk result (λ names. AreNames classes.now.numbers.constants classes.now.labels count names.items) }
 {
-    let mut names = Vec::with_capacity(alloc, size as usize)?;
-    for number in 0..size {
-        names.push(name(table.constants.as_slice(), classes.label(number)))?;
+    let constants = classes.numbering().constants();
+    let mut names = Vec::with_capacity(alloc, count as usize)?;
+    for number in 0..count {
+        names.push(name(constants, classes.label(number)))?;
     }
     Ok(names)
 }
 
-/// The set of these members, whose links made the classes.
+/// The set of these members, each of which has a copy of the width, and whose links made the classes.
 pub fn named(
     alloc: Global,
-    classes: &Partition,
-    table: &Table,
+    classes: &Classes,
     members: &Vec<usize>,
+    width: u32,
 ) -> Result<Joined, NoMemory>
     requires few { vec_len members.now ≤ 129 }
-    requires size { size table.now (vec_len members.now) ≤ length classes.now }
-    requires narrow { size table.now (vec_len members.now) < 2 ^ 32 }
-    ensures { IfOk result (λ j. IsNamed table.now classes.now members.now.items j) }
+    requires width { HasWidth classes.now.numbers width }
+    requires within { vec_len members.now ≤ length classes.now.numbers.widths }
+    ensures named { IfOk result (λ j. IsNamed classes.now members.now.items j) }
+    ensures width { IfOk result (λ j. j.width ≡ width) }
 {
-    let names = names(alloc, classes, table, table.size(members.len() as u32))?;
+    let numbering = classes.numbering();
+    let names = names(alloc, classes, numbering.first(members.len() as u32))?;
     Ok(Joined {
         members: members.clone()?,
         names,
-        constants: table.constants.len() as u32,
-        variables: table.variables,
-        width: table.width,
+        constants: numbering.constants().len() as u32,
+        variables: numbering.variables(),
+        width,
     })
 }

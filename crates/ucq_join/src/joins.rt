@@ -2,12 +2,12 @@
 ghost use Rattle.std.specs.Prelude.{◌≡◌, [], IfOk};
 ghost use Rattle.ucq_join.specs.Walk.{ArePieces, IsStep};
 
+use crate::copies::{numbering, rule_width, set_copies};
 use crate::joined::{Joined, named};
 use crate::search::advance;
-use crate::table::Table;
 use std::alloc::Global;
 use std::marker::Model;
-use ucq_partition::Partition;
+use ucq_classes::{Classes, Numbering};
 use ucq_terms::{NoMemory, Piece, Query, Rule};
 
 /// A walk through the sets of pieces that make aggregates, in the order of a dictionary. Contracts see where it stands.
@@ -16,20 +16,20 @@ pub struct Joins<'p> {
     query: &'p Query,
     rule: &'p Rule,
     pieces: &'p [Piece],
-    table: Table,
+    numbering: Numbering,
+    width: u32,
     present: Vec<usize>,
 }
 
 impl<'p> Model for Joins<'p> {
-    ghost use Rattle.std.specs.Prelude.{◌≡◌, ◌⊎◌, []};
-    ghost use Rattle.ucq_join.specs.Walk.{Walk, ArePieces, IsJoin};
-    ghost use Rattle.ucq_join.specs.Table.{IsTableOf};
+    ghost use Rattle.ucq_join.specs.Walk.{Walk};
+    ghost use Rattle.ucq_join.specs.Search.{IsWalking};
 
     ghost Value = { Walk };
 
     ghost view = { λ w. record { query = w.query.now; rule = w.rule.now; pieces = w.pieces.now; present = w.present.items } };
 
-    ghost invariant = { λ w. ArePieces w.query.now w.rule.now w.pieces.now × IsTableOf w.query.now w.rule.now w.table × ((w.present.items ≡ []) ⊎ IsJoin w.query.now w.rule.now w.pieces.now w.present.items) };
+    ghost invariant = { λ w. IsWalking (record { query = w.query.now; rule = w.rule.now; pieces = w.pieces.now; present = w.present.items }) w.numbering w.width };
 }
 
 impl<'p> Joins<'p> {
@@ -47,7 +47,8 @@ impl<'p> Joins<'p> {
             query,
             rule,
             pieces,
-            table: Table::new(alloc, query, rule)?,
+            numbering: numbering(alloc, query, rule)?,
+            width: rule_width(rule),
             present: Vec::new(alloc),
         })
     }
@@ -58,14 +59,11 @@ impl<'p> Joins<'p> {
         ensures { IsStep self.old self.new result }
     {
         let mut members = self.present.clone()?;
-        let size = self.table.size(members.len() as u32 + 1);
-        let mut classes = match Partition::new(*members.allocator(), size) {
-            Ok(classes) => classes,
-            Err(_) => return Err(NoMemory),
-        };
+        let copies = members.len() as u32 + 1;
+        set_copies(&mut self.numbering, copies, self.width)?;
+        let mut classes = Classes::new(*members.allocator(), &self.numbering)?;
         if !advance(
             &mut classes,
-            &self.table,
             self.query,
             self.rule,
             self.pieces,
@@ -73,7 +71,7 @@ impl<'p> Joins<'p> {
         )? {
             return Ok(None);
         }
-        let joined = named(*members.allocator(), &classes, &self.table, &members)?;
+        let joined = named(*members.allocator(), &classes, &members, self.width)?;
         self.present = members;
         Ok(Some(joined))
     }

@@ -5,11 +5,11 @@
 //! all of it overlaps or clashes too.
 #![tactic(auto)]
 
-mod classes;
+mod copies;
 mod joined;
 mod joins;
+mod links;
 mod search;
-mod table;
 
 pub use joined::Joined;
 pub use joins::Joins;

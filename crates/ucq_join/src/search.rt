@@ -1,13 +1,13 @@
 //! The search for the next set of pieces that make an aggregate.
 ghost use Rattle.std.specs.Prelude.{◌≡◌, ◌<◌, ◌≤◌, ◌+◌, ◌++◌, [], ◌∷◌, ◌↔◌, ◌⊎◌, ℕ, List, length, vec_len, IsTrue, IfOk, Contains, Some, None, true, false};
 ghost use Rattle.ucq_terms.specs.Rewriting.{AreApart};
-ghost use Rattle.ucq_join.specs.Table.{size, IsTableOf, IsClassed};
+ghost use Rattle.ucq_classes.specs.Classes.{IsClassed};
+ghost use Rattle.ucq_join.specs.Copies.{AreNumbered};
 ghost use Rattle.ucq_join.specs.Walk.{ArePieces, IsJoin, piece_member, links_at, Walk, IsNext, IsLast};
 ghost use Rattle.ucq_join.specs.Search.{has_place, overlap, start_of, IsStart, IsFirstFrom, IsAdvanced};
 
-use crate::classes::{has_clash, link_members, link_piece, piece_at};
-use crate::table::Table;
-use ucq_partition::Partition;
+use crate::links::{link_members, link_piece, piece_at};
+use ucq_classes::Classes;
 use ucq_terms::{NoMemory, Piece, Query, Rule};
 
 /// Whether the piece matches the query's atom at the place.
@@ -40,53 +40,51 @@ fn is_apart(pieces: &[Piece], members: &[usize], place: usize) -> bool
 
 /// Whether the members and the piece at the place, which is above theirs, make an aggregate. If so, the classes are its.
 fn joins(
-    classes: &mut Partition,
-    table: &Table,
+    classes: &mut Classes,
     query: &Query,
     rule: &Rule,
     pieces: &[Piece],
     members: &[usize],
     place: usize,
 ) -> bool
-    requires table { IsTableOf query.now rule.now table.now }
+    requires numbered { AreNumbered query.now rule.now classes.old.numbers }
     requires pieces { ArePieces query.now rule.now pieces.now }
-    requires size { size table.now (length members.now + 1) ≤ length classes.old }
+    requires room { length members.now + 1 ≤ length classes.old.numbers.widths }
     requires start { IsStart query.now rule.now pieces.now members.now place }
     requires place { place < length pieces.now }
-    ensures size { length classes.new ≡ length classes.old }
+    ensures numbers { classes.new.numbers ≡ classes.old.numbers }
     ensures join { result ≡ true → IsJoin query.now rule.now pieces.now (members.now ++ place ∷ []) }
     ensures none { result ≡ false → IsJoin query.now rule.now pieces.now (members.now ++ place ∷ []) → ⊥ }
-    ensures classed { result ≡ true → IsClassed table.now (length members.now + 1) (links_at query.now rule.now pieces.now (members.now ++ place ∷ [])) classes.new }
+    ensures classed { result ≡ true → IsClassed (links_at query.now rule.now pieces.now (members.now ++ place ∷ [])) classes.new }
 {
     if !is_apart(pieces, members, place) {
         return false;
     }
     let copy = members.len() as u32;
-    link_members(classes, table, query, rule, pieces, members);
-    link_piece(classes, table, query, rule, copy, &pieces[place]);
-    !has_clash(classes, table, copy + 1)
+    link_members(classes, query, rule, pieces, members);
+    link_piece(classes, query, rule, copy, &pieces[place]);
+    !classes.has_clash()
 }
 
 /// The first piece from `start` on that makes an aggregate with the members. If there is one, the classes are its.
 fn first_joining(
-    classes: &mut Partition,
-    table: &Table,
+    classes: &mut Classes,
     query: &Query,
     rule: &Rule,
     pieces: &[Piece],
     members: &[usize],
     start: usize,
 ) -> Option<usize>
-    requires table { IsTableOf query.now rule.now table.now }
+    requires numbered { AreNumbered query.now rule.now classes.old.numbers }
     requires pieces { ArePieces query.now rule.now pieces.now }
-    requires size { size table.now (length members.now + 1) ≤ length classes.old }
+    requires room { length members.now + 1 ≤ length classes.old.numbers.widths }
     requires start { IsStart query.now rule.now pieces.now members.now start }
-    ensures size { length classes.new ≡ length classes.old }
+    ensures numbers { classes.new.numbers ≡ classes.old.numbers }
     ensures first { IsFirstFrom query.now rule.now pieces.now members.now start result }
-    ensures classed { (place : ℕ) → result ≡ Some place → IsClassed table.now (length members.now + 1) (links_at query.now rule.now pieces.now (members.now ++ place ∷ [])) classes.new }
+    ensures classed { (place : ℕ) → result ≡ Some place → IsClassed (links_at query.now rule.now pieces.now (members.now ++ place ∷ [])) classes.new }
 {
     for place in start..pieces.len() {
-        if joins(classes, table, query, rule, pieces, members, place) {
+        if joins(classes, query, rule, pieces, members, place) {
             return Some(place);
         }
     }
@@ -113,26 +111,25 @@ fn next_place(place: usize, count: usize) -> usize
 
 /// Takes the members on to the next set, and tells whether there is one. If so, the classes are its.
 pub fn advance(
-    classes: &mut Partition,
-    table: &Table,
+    classes: &mut Classes,
     query: &Query,
     rule: &Rule,
     pieces: &[Piece],
     members: &mut Vec<usize>,
 ) -> Result<bool, NoMemory>
-    requires table { IsTableOf query.now rule.now table.now }
+    requires numbered { AreNumbered query.now rule.now classes.old.numbers }
     requires pieces { ArePieces query.now rule.now pieces.now }
-    requires size { size table.now (vec_len members.old + 1) ≤ length classes.old }
+    requires room { vec_len members.old + 1 ≤ length classes.old.numbers.widths }
     requires present { (members.old.items ≡ []) ⊎ IsJoin query.now rule.now pieces.now members.old.items }
-    ensures size { length classes.new ≡ length classes.old }
+    ensures numbers { classes.new.numbers ≡ classes.old.numbers }
     ensures advanced { IfOk result (λ found. IsAdvanced (record { query = query.now; rule = rule.now; pieces = pieces.now; present = members.old.items }) members.new.items found) }
-    ensures classed { IfOk result (λ found. found ≡ true → IsClassed table.now (vec_len members.new) (links_at query.now rule.now pieces.now members.new.items) classes.new) }
+    ensures classed { IfOk result (λ found. found ≡ true → IsClassed (links_at query.now rule.now pieces.now members.new.items) classes.new) }
     ensures length { IfOk result (λ found. vec_len members.new ≤ vec_len members.old + 1) }
 {
     let count = pieces.len();
     let mut start = start_after(members, count);
     loop {
-        if let Some(place) = first_joining(classes, table, query, rule, pieces, members, start) {
+        if let Some(place) = first_joining(classes, query, rule, pieces, members, start) {
             members.push(place)?;
             return Ok(true);
         }

@@ -2,4 +2,4 @@ use Rattle.ucq_join.specs.Naming.{AreNames}
 use Rattle.ucq_join.proofs.joined.names.Given as goal
 
 abbrev pub invariant-loop-number : goal.invariant-loop-number
-invariant-loop-number l = AreNames l.table.constants.items l.classes l.number l.names.items
+invariant-loop-number l = AreNames l.classes.numbers.constants l.classes.labels l.number l.names.items

@@ -11,7 +11,7 @@ start_after-start-requires c = λ place i.
 
 pub loop-place-init : goal.loop-place-init
 loop-place-init c = record {
-  size = refl;
+  numbers = refl;
   searching = searching_start _ c.deref.result.now c.start_after-start.result c.requires.pieces c.requires.present c.deref.ensures.value c.start_after-start.ensures;
   fewer = omega arith;
 }
@@ -34,7 +34,7 @@ pub loop-place-preserved : goal.loop-place-preserved
 loop-place-preserved c =
     let w : Walk = record { query = c.args.query.now; rule = c.args.rule.now; pieces = c.args.pieces.now; present = c.args.members.now.items } in
     record {
-      size = c.first_joining.ensures.size ∙ c.loop-place.invariant.size;
+      numbers = c.first_joining.ensures.numbers ∙ c.loop-place.invariant.numbers;
       searching = subst (λ (n : ℕ). IsSearching w c.pop.new.self.items n) (sym c.next_place-start.ensures)
           (last_left w c.deref-in-loop-place.result.now c.loop-place.members.items c.pop.new.self.items c.loop-place.start c.in-Some-pop.last c.deref-in-loop-place.ensures.value
           c.in-Some-pop.ensures.items c.loop-place.invariant.searching c.in_default.ensures.first);
