@@ -8,7 +8,7 @@ use Rattle.std.proofs.lemmas.Bool.{cases_Bool}
 use Rattle.ucq_terms.specs.declared.Term.TheVariants.{Variable}
 use Rattle.ucq_terms.specs.Syntax.{Atom, Query, Rule, OccursIn}
 use Rattle.ucq_terms.specs.Chase.{IsExistential}
-use Rattle.ucq_terms.specs.Unifier.{Node, constant, of_query, of_copy, atom_at, places, is_place, unmatched, links, AreJoined, KeepsPredicate, IsSeparating, IsNonSeparating, IsPieceUnifier, IsSinglePiece}
+use Rattle.ucq_terms.specs.Unifier.{Node, constant, of_query, of_copy, atom_at, places, is_place, unmatched, links, AreJoined, KeepsPredicate, IsSeparating, IsNonSeparating, IsPieceUnifier, IsSinglePiece, HasNoClash}
 use Rattle.ucq_terms.proofs.Classes.{AreJoined-more, AreJoined-end}
 use Rattle.ucq_terms.proofs.Decide.{dec_contains}
 use Rattle.ucq_terms.proofs.Lists.{Contains-filter, Contains-from_filter, length-positive, first_element}
@@ -125,6 +125,11 @@ called_for q rule choice place pairs U w l c = elim (dec_contains ℕ_discrete (
       (OccursIn-from_atom (unmatched q pairs) (Variable u) (atom_at q.atoms place) (Contains-unmatched q pairs place l n) c.there))))
       (U.existential p.variable (of_query u) p.existential (joined_within q rule choice pairs w p.joined))
 ]
+
+-- constants that the choice's pairs join are joined by all piece-unifiers that have them
+pub unlike_blocks : (q : Query) (rule : Rule) (choice : List (Option ℕ)) (pairs : List (ℕ × ℕ)) → (HasNoClash (links q 0 rule (pairs_of choice)) → ⊥) →
+    IsPieceUnifier q rule pairs → IsWithin choice pairs → ⊥
+unlike_blocks q rule choice pairs h U w = h (λ c d j. U.no_clash c d (joined_within q rule choice pairs w j))
 
 -- a clash of the choice's pairs is one of all piece-unifiers that have them
 pub clash_blocks : (q : Query) (rule : Rule) (choice : List (Option ℕ)) (pairs : List (ℕ × ℕ)) → HasClash q rule (links q 0 rule (pairs_of choice)) → IsPieceUnifier q rule pairs →

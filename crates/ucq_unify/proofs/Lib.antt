@@ -1,9 +1,9 @@
 pub mod Choices
 pub mod Growth
 pub mod Found
-pub mod Prefixes
-pub mod Tables
-pub mod Classed
+pub use Rattle.ucq_classes.proofs.Prefixes
+pub mod Flags
+pub mod Linked
 pub mod Clashing
 pub mod Searched
 pub mod Connected

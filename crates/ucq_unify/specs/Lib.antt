@@ -1,4 +1,4 @@
 pub mod Pieces
-pub mod Table
+pub mod Sides
 pub mod Classes
 pub mod Search

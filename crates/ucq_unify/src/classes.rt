@@ -1,89 +1,53 @@
 //! The classes of terms that a choice of pairs joins, and what they tell.
-ghost use Rattle.std.specs.Prelude.{◌≡◌, ◌<◌, ◌+◌, ◌^◌, ◌++◌, ◌⊎◌, ◌↔◌, ℕ, List, length, vec_len, IsTrue, IfSome, Contains, Some, None, true, false};
+ghost use Rattle.std.specs.Prelude.{◌≡◌, ◌<◌, ◌++◌, ◌⊎◌, ◌↔◌, ℕ, List, length, IsTrue, IfSome, Contains, Some, None, true, false};
 ghost use Rattle.ucq_terms.specs.declared.Term.TheVariants.{Variable};
-ghost use Rattle.ucq_partition.specs.Partition.{AreLinked, IsMadeBy};
 ghost use Rattle.ucq_terms.specs.Syntax.{OccursIn};
-ghost use Rattle.ucq_terms.specs.Unifier.{Node, links, query_node, KeepsPredicate};
+ghost use Rattle.ucq_terms.specs.Unifier.{Node as NodeValue, of_query, of_copy, links, KeepsPredicate, AreJoined, HasNoClash};
+ghost use Rattle.ucq_classes.specs.Numbers.{width_of, NumbersQuery};
+ghost use Rattle.ucq_classes.specs.Classes.{IsClassed};
 ghost use Rattle.ucq_unify.specs.Pieces.{pairs_of};
-ghost use Rattle.ucq_unify.specs.Table.{size, IsNumbered, IsTableOf, HasLowAnswers};
-ghost use Rattle.ucq_unify.specs.Classes.{IsClassed, IsNumberedAtom, IsNumberedHead, atom_links, place_links, IsFlaggedPrivate, MeetsConstant, MeetsAnswer, MeetsOther, IsSpoilt, HasSpoilt, MeetsUnlike, HasUnlike, CallsFor, IsCalledAt, KeepsEach};
+ghost use Rattle.ucq_unify.specs.Sides.{HasFlags, HasLowAnswers, AreNumbered};
+ghost use Rattle.ucq_unify.specs.Classes.{place_links, IsFlaggedPrivate, MeetsConstant, MeetsAnswer, MeetsOther, IsSpoilt, HasSpoilt, CallsFor, IsCalledAt, KeepsEach};
 
-use crate::table::Table;
-use ucq_partition::Partition;
-use ucq_terms::{Atom, Query, Rule, Term};
-
-// Joins the terms that stand at one place of the two atoms.
-fn link_atoms(classes: &mut Partition, table: &Table, atom: &Atom, head: &Atom)
-    requires small { size table.now < 2 ^ 32 }
-    requires size { length classes.old ≡ size table.now }
-    requires atom { IsNumberedAtom table.now atom.now }
-    requires head { IsNumberedHead table.now head.now }
-    requires arity { length atom.now.terms ≡ length head.now.terms }
-    ensures size { length classes.new ≡ length classes.old }
-    ensures linked { (links : List (Node × Node)) → IsClassed table.now links classes.old → IsClassed table.now (links ++ atom_links atom.now head.now) classes.new }
-{
-    let terms = atom.terms();
-    let others = head.terms();
-    for i in 0..terms.len() {
-        classes.join(table.query_term(terms[i]), table.head_term(others[i]));
-    }
-}
+use crate::sides::Sides;
+use ucq_classes::{Classes, Node};
+use ucq_terms::{Query, Term};
 
 // Joins the terms of the atom at the place and of the head's atom that the choice has for it.
-fn link_place(
-    classes: &mut Partition,
-    table: &Table,
-    query: &Query,
-    rule: &Rule,
-    place: usize,
-    head: Option<u32>,
-)
-    requires table { IsTableOf query.now rule.now table.now }
-    requires size { length classes.old ≡ size table.now }
-    requires keeps { (h : ℕ) → head ≡ Some h → KeepsPredicate query.now rule.now (place, h) }
-    ensures size { length classes.new ≡ length classes.old }
-    ensures linked { (links : List (Node × Node)) → IsClassed table.now links classes.old → IsClassed table.now (links ++ place_links query.now rule.now place head) classes.new }
+fn link_place(classes: &mut Classes, sides: &Sides, place: usize, head: Option<u32>)
+    requires sides { AreNumbered sides.now.query.now sides.now.rule.now sides.now.existential.items classes.old.numbers }
+    requires keeps { (h : ℕ) → head ≡ Some h → KeepsPredicate sides.now.query.now sides.now.rule.now (place, h) }
+    ensures numbers { classes.new.numbers ≡ classes.old.numbers }
+    ensures linked { (links : List (NodeValue × NodeValue)) → IsClassed links classes.old → IsClassed (links ++ place_links sides.now.query.now sides.now.rule.now place head) classes.new }
 {
     if let Some(head) = head {
-        link_atoms(
-            classes,
-            table,
-            &query.atoms()[place],
-            &rule.heads()[head as usize],
-        );
+        let atoms = sides.query.atoms();
+        let heads = sides.rule.heads();
+        classes.link_atoms(&atoms[place], 0, &heads[head as usize]);
     }
 }
 
 /// Makes the classes those of the terms that the choice's pairs join.
-pub fn link_choice(
-    classes: &mut Partition,
-    table: &Table,
-    query: &Query,
-    rule: &Rule,
-    choice: &[Option<u32>],
-)
-    requires table { IsTableOf query.now rule.now table.now }
-    requires size { length classes.old ≡ size table.now }
-    requires keeps { KeepsEach query.now rule.now choice.now }
-    ensures size { length classes.new ≡ length classes.old }
-    ensures linked { IsClassed table.now (links query.now 0 rule.now (pairs_of choice.now)) classes.new }
+pub fn link_choice(classes: &mut Classes, sides: &Sides, choice: &[Option<u32>])
+    requires sides { AreNumbered sides.now.query.now sides.now.rule.now sides.now.existential.items classes.old.numbers }
+    requires keeps { KeepsEach sides.now.query.now sides.now.rule.now choice.now }
+    ensures numbers { classes.new.numbers ≡ classes.old.numbers }
+    ensures linked { IsClassed (links sides.now.query.now 0 sides.now.rule.now (pairs_of choice.now)) classes.new }
 {
     classes.clear();
     for place in 0..choice.len() {
-        link_place(classes, table, query, rule, place, choice[place]);
+        link_place(classes, sides, place, choice[place]);
     }
 }
 
 // Whether the variable of the rule is joined to a constant.
-fn meets_constant(table: &Table, classes: &Partition, variable: u32) -> bool
-    requires small { size table.now < 2 ^ 32 }
-    requires size { length classes.now ≡ size table.now }
-    requires below { variable < vec_len table.now.existential }
-    ensures { (links : List (Node × Node)) → IsClassed table.now links classes.now → (IsTrue result ↔ MeetsConstant table.now links variable) }
+fn meets_constant(classes: &Classes, variable: u32) -> bool
+    requires { variable < width_of classes.now.numbers 0 }
+    ensures { (links : List (NodeValue × NodeValue)) → IsClassed links classes.now → (IsTrue result ↔ MeetsConstant classes.now.numbers links variable) }
 {
-    let number = table.rule_variable(variable);
-    for k in 0..table.constants.len() {
-        if classes.same(number, table.constant(table.constants[k])) {
+    let constants = classes.numbering().constants();
+    for k in 0..constants.len() {
+        if classes.same(Node::OfCopy(0, variable), Node::Constant(constants[k])) {
             return true;
         }
     }
@@ -91,45 +55,39 @@ fn meets_constant(table: &Table, classes: &Partition, variable: u32) -> bool
 }
 
 // Whether the variable of the rule is joined to a variable among the answers.
-fn meets_answer(table: &Table, classes: &Partition, variable: u32, query: &Query) -> bool
-    requires size { length classes.now ≡ size table.now }
-    requires small { size table.now < 2 ^ 32 }
-    requires below { variable < vec_len table.now.existential }
-    requires answers { HasLowAnswers query.now table.now }
-    ensures { (links : List (Node × Node)) → IsClassed table.now links classes.now → (IsTrue result ↔ MeetsAnswer query.now links variable) }
+fn meets_answer(classes: &Classes, query: &Query, variable: u32) -> bool
+    requires below { variable < width_of classes.now.numbers 0 }
+    requires answers { HasLowAnswers query.now classes.now.numbers }
+    ensures { (links : List (NodeValue × NodeValue)) → IsClassed links classes.now → (IsTrue result ↔ MeetsAnswer query.now links variable) }
 {
-    let number = table.rule_variable(variable);
     for term in query.answers() {
-        if is_joined(classes, number, *term) {
+        if is_joined(classes, variable, *term) {
             return true;
         }
     }
     false
 }
 
-// Whether the term is a variable of the query that is joined to the number.
-fn is_joined(classes: &Partition, number: u32, term: Term) -> bool
-    requires number { number < length classes.now }
-    requires term { (u : ℕ) → term ≡ Variable u → u < length classes.now }
-    ensures joined { result ≡ true → (u : ℕ) × (term ≡ Variable u) × ((joins : List (ℕ × ℕ)) → IsMadeBy joins classes.now → AreLinked joins number u) }
-    ensures apart { result ≡ false → (u : ℕ) → term ≡ Variable u → (joins : List (ℕ × ℕ)) → IsMadeBy joins classes.now → AreLinked joins number u → ⊥ }
+// Whether the term is a variable of the query that is joined to that of the rule.
+fn is_joined(classes: &Classes, variable: u32, term: Term) -> bool
+    requires below { variable < width_of classes.now.numbers 0 }
+    requires term { (u : ℕ) → term ≡ Variable u → u < classes.now.numbers.variables }
+    ensures joined { result ≡ true → (u : ℕ) × (term ≡ Variable u) × ((links : List (NodeValue × NodeValue)) → IsClassed links classes.now → AreJoined links (of_copy 0 variable) (of_query u)) }
+    ensures apart { result ≡ false → (u : ℕ) → term ≡ Variable u → (links : List (NodeValue × NodeValue)) → IsClassed links classes.now → AreJoined links (of_copy 0 variable) (of_query u) → ⊥ }
 {
     match term {
         Term::Constant(_) => false,
-        Term::Variable(variable) => classes.same(number, variable),
+        Term::Variable(other) => classes.same(Node::OfCopy(0, variable), Node::OfQuery(other)),
     }
 }
 
 // Whether the variable of the rule is joined to another one.
-fn meets_other(table: &Table, classes: &Partition, variable: u32) -> bool
-    requires small { size table.now < 2 ^ 32 }
-    requires size { length classes.now ≡ size table.now }
-    requires below { variable < vec_len table.now.existential }
-    ensures { (links : List (Node × Node)) → IsClassed table.now links classes.now → (IsTrue result ↔ MeetsOther table.now links variable) }
+fn meets_other(classes: &Classes, variable: u32) -> bool
+    requires { variable < width_of classes.now.numbers 0 }
+    ensures { (links : List (NodeValue × NodeValue)) → IsClassed links classes.now → (IsTrue result ↔ MeetsOther classes.now.numbers links variable) }
 {
-    let number = table.rule_variable(variable);
-    for other in 0..table.existential.len() as u32 {
-        if other != variable && classes.same(number, table.rule_variable(other)) {
+    for other in 0..classes.numbering().width(0) {
+        if other != variable && classes.same(Node::OfCopy(0, variable), Node::OfCopy(0, other)) {
             return true;
         }
     }
@@ -137,14 +95,12 @@ fn meets_other(table: &Table, classes: &Partition, variable: u32) -> bool
 }
 
 // Whether an existential variable is joined to a constant, an answer variable or another variable of the rule.
-fn has_spoilt(table: &Table, classes: &Partition, query: &Query) -> bool
-    requires small { size table.now < 2 ^ 32 }
-    requires size { length classes.now ≡ size table.now }
-    requires answers { HasLowAnswers query.now table.now }
-    ensures { (links : List (Node × Node)) → IsClassed table.now links classes.now → (IsTrue result ↔ HasSpoilt query.now table.now links) }
+fn has_spoilt(classes: &Classes, sides: &Sides) -> bool
+    requires { AreNumbered sides.now.query.now sides.now.rule.now sides.now.existential.items classes.now.numbers }
+    ensures { (links : List (NodeValue × NodeValue)) → IsClassed links classes.now → (IsTrue result ↔ HasSpoilt sides.now.query.now classes.now.numbers sides.now.existential.items links) }
 {
-    for variable in 0..table.existential.len() as u32 {
-        if table.existential[variable as usize] && is_spoilt(table, classes, variable, query) {
+    for variable in 0..classes.numbering().width(0) {
+        if sides.existential[variable as usize] && is_spoilt(classes, sides.query, variable) {
             return true;
         }
     }
@@ -152,59 +108,27 @@ fn has_spoilt(table: &Table, classes: &Partition, query: &Query) -> bool
 }
 
 // The same of this variable.
-fn is_spoilt(table: &Table, classes: &Partition, variable: u32, query: &Query) -> bool
-    requires small { size table.now < 2 ^ 32 }
-    requires size { length classes.now ≡ size table.now }
-    requires below { variable < vec_len table.now.existential }
-    requires answers { HasLowAnswers query.now table.now }
-    ensures { (links : List (Node × Node)) → IsClassed table.now links classes.now → (IsTrue result ↔ IsSpoilt query.now table.now links variable) }
+fn is_spoilt(classes: &Classes, query: &Query, variable: u32) -> bool
+    requires below { variable < width_of classes.now.numbers 0 }
+    requires answers { HasLowAnswers query.now classes.now.numbers }
+    ensures { (links : List (NodeValue × NodeValue)) → IsClassed links classes.now → (IsTrue result ↔ IsSpoilt query.now classes.now.numbers links variable) }
 {
-    if meets_constant(table, classes, variable) {
+    if meets_constant(classes, variable) {
         return true;
     }
-    meets_answer(table, classes, variable, query) || meets_other(table, classes, variable)
-}
-
-// Whether the constant is joined to another one.
-fn meets_unlike(table: &Table, classes: &Partition, constant: u32) -> bool
-    requires small { size table.now < 2 ^ 32 }
-    requires size { length classes.now ≡ size table.now }
-    requires held { Contains table.now.constants.items constant }
-    ensures { (links : List (Node × Node)) → IsClassed table.now links classes.now → (IsTrue result ↔ MeetsUnlike table.now links constant) }
-{
-    let number = table.constant(constant);
-    for k in 0..table.constants.len() {
-        let other = table.constants[k];
-        if other != constant && classes.same(number, table.constant(other)) {
-            return true;
-        }
-    }
-    false
-}
-
-// Whether two constants are joined.
-fn has_unlike(table: &Table, classes: &Partition) -> bool
-    requires small { size table.now < 2 ^ 32 }
-    requires size { length classes.now ≡ size table.now }
-    ensures { (links : List (Node × Node)) → IsClassed table.now links classes.now → (IsTrue result ↔ HasUnlike table.now links) }
-{
-    for k in 0..table.constants.len() {
-        if meets_unlike(table, classes, table.constants[k]) {
-            return true;
-        }
-    }
-    false
+    meets_answer(classes, query, variable) || meets_other(classes, variable)
 }
 
 // Whether the variable of the query is joined to an existential variable.
-fn is_private(table: &Table, classes: &Partition, variable: u32) -> bool
-    requires small { size table.now < 2 ^ 32 }
-    requires size { length classes.now ≡ size table.now }
-    requires below { variable < table.now.variables }
-    ensures { (links : List (Node × Node)) → IsClassed table.now links classes.now → (IsTrue result ↔ IsFlaggedPrivate table.now links variable) }
+fn is_private(classes: &Classes, sides: &Sides, variable: u32) -> bool
+    requires sides { AreNumbered sides.now.query.now sides.now.rule.now sides.now.existential.items classes.now.numbers }
+    requires below { variable < classes.now.numbers.variables }
+    ensures { (links : List (NodeValue × NodeValue)) → IsClassed links classes.now → (IsTrue result ↔ IsFlaggedPrivate sides.now.existential.items links variable) }
 {
-    for other in 0..table.existential.len() as u32 {
-        if table.existential[other as usize] && classes.same(table.rule_variable(other), variable) {
+    for other in 0..classes.numbering().width(0) {
+        if sides.existential[other as usize]
+            && classes.same(Node::OfCopy(0, other), Node::OfQuery(variable))
+        {
             return true;
         }
     }
@@ -212,15 +136,14 @@ fn is_private(table: &Table, classes: &Partition, variable: u32) -> bool
 }
 
 // Whether one of the terms is a variable that is joined to an existential one.
-fn calls_for(table: &Table, classes: &Partition, terms: &[Term]) -> bool
-    requires small { size table.now < 2 ^ 32 }
-    requires size { length classes.now ≡ size table.now }
-    requires below { (v : ℕ) → Contains terms.now (Variable v) → v < table.now.variables }
-    ensures { (links : List (Node × Node)) → IsClassed table.now links classes.now → (IsTrue result ↔ CallsFor table.now links terms.now) }
+fn calls_for(classes: &Classes, sides: &Sides, terms: &[Term]) -> bool
+    requires sides { AreNumbered sides.now.query.now sides.now.rule.now sides.now.existential.items classes.now.numbers }
+    requires below { (v : ℕ) → Contains terms.now (Variable v) → v < classes.now.numbers.variables }
+    ensures { (links : List (NodeValue × NodeValue)) → IsClassed links classes.now → (IsTrue result ↔ CallsFor sides.now.existential.items links terms.now) }
 {
     for term in terms {
         if let Term::Variable(variable) = *term {
-            if is_private(table, classes, variable) {
+            if is_private(classes, sides, variable) {
                 return true;
             }
         }
@@ -229,22 +152,15 @@ fn calls_for(table: &Table, classes: &Partition, terms: &[Term]) -> bool
 }
 
 /// The first place without a head whose atom has such a variable.
-pub fn first_called(
-    table: &Table,
-    classes: &Partition,
-    query: &Query,
-    choice: &[Option<u32>],
-) -> Option<u32>
-    requires small { size table.now < 2 ^ 32 }
-    requires size { length classes.now ≡ size table.now }
-    requires below { (v : ℕ) → OccursIn query.now.atoms (Variable v) → v < table.now.variables }
-    requires length { length choice.now ≡ length query.now.atoms }
-    ensures some { (links : List (Node × Node)) → IsClassed table.now links classes.now → IfSome result (λ place. IsCalledAt table.now links query.now choice.now place) }
-    ensures none { (links : List (Node × Node)) → IsClassed table.now links classes.now → result ≡ None → (place : ℕ) → IsCalledAt table.now links query.now choice.now place → ⊥ }
+pub fn first_called(classes: &Classes, sides: &Sides, choice: &[Option<u32>]) -> Option<u32>
+    requires sides { AreNumbered sides.now.query.now sides.now.rule.now sides.now.existential.items classes.now.numbers }
+    requires length { length choice.now ≡ length sides.now.query.now.atoms }
+    ensures some { (links : List (NodeValue × NodeValue)) → IsClassed links classes.now → IfSome result (λ place. IsCalledAt sides.now.existential.items links sides.now.query.now choice.now place) }
+    ensures none { (links : List (NodeValue × NodeValue)) → IsClassed links classes.now → result ≡ None → (place : ℕ) → IsCalledAt sides.now.existential.items links sides.now.query.now choice.now place → ⊥ }
 {
-    let atoms = query.atoms();
+    let atoms = sides.query.atoms();
     for place in 0..choice.len() {
-        if choice[place].is_none() && calls_for(table, classes, atoms[place].terms()) {
+        if choice[place].is_none() && calls_for(classes, sides, atoms[place].terms()) {
             return Some(place as u32);
         }
     }
@@ -252,11 +168,10 @@ pub fn first_called(
 }
 
 /// Whether the classes join terms with which there is no piece-unifier.
-pub fn has_clash(table: &Table, classes: &Partition, query: &Query) -> bool
-    requires small { size table.now < 2 ^ 32 }
-    requires size { length classes.now ≡ size table.now }
-    requires answers { HasLowAnswers query.now table.now }
-    ensures { (links : List (Node × Node)) → IsClassed table.now links classes.now → (IsTrue result ↔ (HasUnlike table.now links ⊎ HasSpoilt query.now table.now links)) }
+pub fn has_clash(classes: &Classes, sides: &Sides) -> bool
+    requires { AreNumbered sides.now.query.now sides.now.rule.now sides.now.existential.items classes.now.numbers }
+    ensures clash { (links : List (NodeValue × NodeValue)) → IsClassed links classes.now → result ≡ true → (HasNoClash links → ⊥) ⊎ HasSpoilt sides.now.query.now classes.now.numbers sides.now.existential.items links }
+    ensures none { (links : List (NodeValue × NodeValue)) → IsClassed links classes.now → result ≡ false → HasNoClash links × (HasSpoilt sides.now.query.now classes.now.numbers sides.now.existential.items links → ⊥) }
 {
-    has_unlike(table, classes) || has_spoilt(table, classes, query)
+    classes.has_clash() || has_spoilt(classes, sides)
 }

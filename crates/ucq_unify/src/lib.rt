@@ -3,6 +3,6 @@
 
 mod classes;
 mod search;
-mod table;
+mod sides;
 
 pub use search::single_pieces;

@@ -2,13 +2,13 @@
 ghost use Rattle.std.specs.Prelude.{◌≡◌, ◌<◌, ◌^◌, ◌++◌, [], ◌∷◌, ◌↔◌, ◌≤◌, ℕ, length, IsTrue, OnOk, IfOk};
 ghost use Rattle.ucq_terms.specs.Unifier.{KeepsPredicate};
 ghost use Rattle.ucq_unify.specs.Pieces.{pairs_of, with_head, IsGrown, IsOpen, AreSinglePieces};
-ghost use Rattle.ucq_unify.specs.Table.{size, IsTableOf};
+ghost use Rattle.ucq_unify.specs.Sides.{AreNumbered};
 ghost use Rattle.ucq_unify.specs.Search.{IsStep, HasFound, HasBranched, IsEmptyChoice};
 
 use crate::classes::{first_called, has_clash, link_choice};
-use crate::table::Table;
+use crate::sides::{Sides, existential_flags, numbering};
 use std::alloc::Global;
-use ucq_partition::Partition;
+use ucq_classes::Classes;
 use ucq_terms::{NoMemory, Piece, Query, Rule};
 
 /// What becomes of a choice.
@@ -23,27 +23,19 @@ enum Step {
 }
 
 // What becomes of the choice, whose least place is the root.
-fn next_step(
-    classes: &mut Partition,
-    table: &Table,
-    query: &Query,
-    rule: &Rule,
-    choice: &[Option<u32>],
-    root: u32,
-) -> Step
-    requires table { IsTableOf query.now rule.now table.now }
-    requires size { length classes.old ≡ size table.now }
-    requires length { length choice.now ≡ length query.now.atoms }
-    requires grown { IsGrown query.now rule.now root choice.now }
+fn next_step(classes: &mut Classes, sides: &Sides, choice: &[Option<u32>], root: u32) -> Step
+    requires sides { AreNumbered sides.now.query.now sides.now.rule.now sides.now.existential.items classes.old.numbers }
+    requires length { length choice.now ≡ length sides.now.query.now.atoms }
+    requires grown { IsGrown sides.now.query.now sides.now.rule.now root choice.now }
     requires some { 0 < length (pairs_of choice.now) }
-    ensures size { length classes.new ≡ length classes.old }
-    ensures step { IsStep query.now rule.now root choice.now result }
+    ensures numbers { classes.new.numbers ≡ classes.old.numbers }
+    ensures step { IsStep sides.now.query.now sides.now.rule.now root choice.now result }
 {
-    link_choice(classes, table, query, rule, choice);
-    if has_clash(table, classes, query) {
+    link_choice(classes, sides, choice);
+    if has_clash(classes, sides) {
         return Step::Blocked;
     }
-    match first_called(table, classes, query, choice) {
+    match first_called(classes, sides, choice) {
         None => Step::Closed,
         Some(place) if place < root => Step::Blocked,
         Some(place) => Step::Open(place),
@@ -114,55 +106,47 @@ fn piece_of(alloc: Global, choice: &[Option<u32>]) -> Result<Piece, NoMemory>
 // Adds the single pieces that have the choice's pairs and no place below the root. After want of memory some are added.
 #[cycle(search)]
 fn search(
-    classes: &mut Partition,
-    table: &Table,
-    query: &Query,
-    rule: &Rule,
+    classes: &mut Classes,
+    sides: &Sides,
     choice: &mut [Option<u32>],
     root: u32,
     found: &mut Vec<Piece>,
 ) -> Result<(), NoMemory>
-    requires table { IsTableOf query.now rule.now table.now }
-    requires size { length classes.old ≡ size table.now }
-    requires length { length choice.old ≡ length query.now.atoms }
-    requires grown { IsGrown query.now rule.now root choice.old }
+    requires sides { AreNumbered sides.now.query.now sides.now.rule.now sides.now.existential.items classes.old.numbers }
+    requires length { length choice.old ≡ length sides.now.query.now.atoms }
+    requires grown { IsGrown sides.now.query.now sides.now.rule.now root choice.old }
     requires some { 0 < length (pairs_of choice.old) }
-    ensures size { length classes.new ≡ length classes.old }
+    ensures numbers { classes.new.numbers ≡ classes.old.numbers }
     ensures choice { OnOk result (choice.new ≡ choice.old) }
-    ensures found { OnOk result (HasFound query.now rule.now root choice.old found.old.items found.new.items) }
+    ensures found { OnOk result (HasFound sides.now.query.now sides.now.rule.now root choice.old found.old.items found.new.items) }
 {
-    match next_step(classes, table, query, rule, choice, root) {
+    match next_step(classes, sides, choice, root) {
         Step::Blocked => Ok(()),
         Step::Closed => keep(choice, found),
-        Step::Open(place) => branch(classes, table, query, rule, choice, root, place, found),
+        Step::Open(place) => branch(classes, sides, choice, root, place, found),
     }
 }
 
 // Adds those of them that have a pair of the place too.
 #[cycle(search)]
 fn branch(
-    classes: &mut Partition,
-    table: &Table,
-    query: &Query,
-    rule: &Rule,
+    classes: &mut Classes,
+    sides: &Sides,
     choice: &mut [Option<u32>],
     root: u32,
     place: u32,
     found: &mut Vec<Piece>,
 ) -> Result<(), NoMemory>
-    requires table { IsTableOf query.now rule.now table.now }
-    requires size { length classes.old ≡ size table.now }
-    requires length { length choice.old ≡ length query.now.atoms }
-    requires open { IsOpen query.now rule.now root choice.old place }
-    ensures size { length classes.new ≡ length classes.old }
+    requires sides { AreNumbered sides.now.query.now sides.now.rule.now sides.now.existential.items classes.old.numbers }
+    requires length { length choice.old ≡ length sides.now.query.now.atoms }
+    requires open { IsOpen sides.now.query.now sides.now.rule.now root choice.old place }
+    ensures numbers { classes.new.numbers ≡ classes.old.numbers }
     ensures choice { OnOk result (choice.new ≡ choice.old) }
-    ensures found { OnOk result (HasBranched query.now rule.now root choice.old place (length rule.now.heads) found.old.items found.new.items) }
+    ensures found { OnOk result (HasBranched sides.now.query.now sides.now.rule.now root choice.old place (length sides.now.rule.now.heads) found.old.items found.new.items) }
 {
-    for head in 0..rule.heads().len() as u32 {
-        if fits(query, rule, place, head) {
-            try_head(
-                classes, table, query, rule, choice, root, place, head, found,
-            )?;
+    for head in 0..sides.rule.heads().len() as u32 {
+        if fits(sides.query, sides.rule, place, head) {
+            try_head(classes, sides, choice, root, place, head, found)?;
         }
     }
     Ok(())
@@ -171,49 +155,43 @@ fn branch(
 // Adds those of them that have the pair of the place and the head.
 #[cycle(search)]
 fn try_head(
-    classes: &mut Partition,
-    table: &Table,
-    query: &Query,
-    rule: &Rule,
+    classes: &mut Classes,
+    sides: &Sides,
     choice: &mut [Option<u32>],
     root: u32,
     place: u32,
     head: u32,
     found: &mut Vec<Piece>,
 ) -> Result<(), NoMemory>
-    requires table { IsTableOf query.now rule.now table.now }
-    requires size { length classes.old ≡ size table.now }
-    requires length { length choice.old ≡ length query.now.atoms }
-    requires open { IsOpen query.now rule.now root choice.old place }
-    requires keeps { KeepsPredicate query.now rule.now (place, head) }
-    ensures size { length classes.new ≡ length classes.old }
+    requires sides { AreNumbered sides.now.query.now sides.now.rule.now sides.now.existential.items classes.old.numbers }
+    requires length { length choice.old ≡ length sides.now.query.now.atoms }
+    requires open { IsOpen sides.now.query.now sides.now.rule.now root choice.old place }
+    requires keeps { KeepsPredicate sides.now.query.now sides.now.rule.now (place, head) }
+    ensures numbers { classes.new.numbers ≡ classes.old.numbers }
     ensures choice { OnOk result (choice.new ≡ choice.old) }
-    ensures found { OnOk result (HasFound query.now rule.now root (with_head choice.old place head) found.old.items found.new.items) }
+    ensures found { OnOk result (HasFound sides.now.query.now sides.now.rule.now root (with_head choice.old place head) found.old.items found.new.items) }
 {
     choice[place as usize] = Some(head);
-    search(classes, table, query, rule, choice, root, found)?;
+    search(classes, sides, choice, root, found)?;
     choice[place as usize] = None;
     Ok(())
 }
 
 // Adds all single pieces.
 fn search_roots(
-    classes: &mut Partition,
-    table: &Table,
-    query: &Query,
-    rule: &Rule,
+    classes: &mut Classes,
+    sides: &Sides,
     choice: &mut [Option<u32>],
     found: &mut Vec<Piece>,
 ) -> Result<(), NoMemory>
-    requires table { IsTableOf query.now rule.now table.now }
-    requires size { length classes.old ≡ size table.now }
-    requires length { length choice.old ≡ length query.now.atoms }
+    requires sides { AreNumbered sides.now.query.now sides.now.rule.now sides.now.existential.items classes.old.numbers }
+    requires length { length choice.old ≡ length sides.now.query.now.atoms }
     requires empty { IsEmptyChoice choice.old }
     requires none { found.old.items ≡ [] }
-    ensures { OnOk result (AreSinglePieces query.now rule.now found.new.items) }
+    ensures { OnOk result (AreSinglePieces sides.now.query.now sides.now.rule.now found.new.items) }
 {
-    for root in 0..query.atoms().len() as u32 {
-        branch(classes, table, query, rule, choice, root, root, found)?;
+    for root in 0..sides.query.atoms().len() as u32 {
+        branch(classes, sides, choice, root, root, found)?;
     }
     Ok(())
 }
@@ -231,20 +209,16 @@ pub fn single_pieces(alloc: Global, query: &Query, rule: &Rule) -> Result<Vec<Pi
     if !share_predicate(query, rule) {
         return Ok(Vec::new(alloc));
     }
-    let table = Table::new(alloc, query, rule)?;
-    let mut classes = match Partition::new(alloc, table.size()) {
-        Ok(classes) => classes,
-        Err(_) => return Err(NoMemory),
-    };
-    let mut choice = vec![in alloc; None; query.atoms().len()]?;
-    let mut found = Vec::new(alloc);
-    search_roots(
-        &mut classes,
-        &table,
+    let existential = existential_flags(alloc, rule)?;
+    let sides = Sides {
         query,
         rule,
-        choice.as_mut_slice(),
-        &mut found,
-    )?;
+        existential,
+    };
+    let numbering = numbering(alloc, &sides)?;
+    let mut classes = Classes::new(alloc, &numbering)?;
+    let mut choice = vec![in alloc; None; query.atoms().len()]?;
+    let mut found = Vec::new(alloc);
+    search_roots(&mut classes, &sides, choice.as_mut_slice(), &mut found)?;
     Ok(found)
 }

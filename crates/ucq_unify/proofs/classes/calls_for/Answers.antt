@@ -13,7 +13,7 @@ is_private-requires-clause-below c = c.requires.below c.in-Variable.variable
 
 pub loop-term-preserved : goal.loop-term-preserved
 loop-term-preserved c = λ links k.
-    let t = c.args.table.now in
+    let t = c.args.sides.now.existential.items in
     prefix_more (λ (s : Term). (u : ℕ) → s ≡ Variable u → IsFlaggedPrivate t links u → ⊥) c.args.terms.now c.loop-term.term-index (Constant 0)
     c.loop-term-test.true (c.loop-term.invariant links k)
     (λ u e p. elim c.match-term.branch [
@@ -28,6 +28,6 @@ loop-term-preserved c = λ links k.
 pub returns : goal.returns
 returns c = λ links k. (
   λ e. cc,
-  λ m. absurd (prefix_all (λ (s : Term). (u : ℕ) → s ≡ Variable u → IsFlaggedPrivate c.args.table.now links u → ⊥) c.args.terms.now c.loop-term.term-index
+  λ m. absurd (prefix_all (λ (s : Term). (u : ℕ) → s ≡ Variable u → IsFlaggedPrivate c.args.sides.now.existential.items links u → ⊥) c.args.terms.now c.loop-term.term-index
       (omega arith) (c.loop-term.invariant links k) (Variable m.variable) m.there m.variable refl m.private_variable),
 )

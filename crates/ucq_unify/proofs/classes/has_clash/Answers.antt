@@ -1,9 +1,11 @@
-use Rattle.std.proofs.Common.{◌≡◌, true, false, sym, ◌∙◌, inr, ⊎_elim}
+use Rattle.std.proofs.Common.{◌≡◌, true, false, sym, ◌∙◌, inl}
 use Rattle.ucq_unify.proofs.classes.has_clash.Goals as goal
 
-pub returns-else-has_unlike : goal.returns-else-has_unlike
-returns-else-has_unlike c = λ links k. (
-  λ e. inr ((c.has_spoilt.ensures links k).0 e),
-  λ s. ⊎_elim (λ a. let e : false ≡ true = sym c.if-has_unlike.false ∙ (c.has_unlike.ensures links k).1 a in cc)
-      (λ a. (c.has_spoilt.ensures links k).1 a) s,
+pub returns-then-has_clash-clause-clash : goal.returns-then-has_clash-clause-clash
+returns-then-has_clash-clause-clash c = λ links k _. inl (c.has_clash.ensures.clash c.if-has_clash.true links k)
+
+pub returns-else-has_clash-clause-none : goal.returns-else-has_clash-clause-none
+returns-else-has_clash-clause-none c = λ links k e. (
+  c.has_clash.ensures.none c.if-has_clash.false links k,
+  λ s. let f : false ≡ true = sym e ∙ (c.has_spoilt.ensures links k).1 s in cc,
 )

@@ -1,11 +1,9 @@
 use Rattle.std.proofs.Common.{◌≡◌, ◌<◌, ℕ, List, length, get_or, Contains, refl, sym, subst, arith}
 use Rattle.std.proofs.lemmas.List.Elements.{Contains-get_or}
-use Rattle.ucq_partition.specs.Partition.{AreLinked}
 use Rattle.ucq_terms.specs.declared.Term.{Term}
 use Rattle.ucq_terms.specs.declared.Term.TheVariants.{Constant, Variable}
 use Rattle.ucq_terms.specs.Unifier.{of_query, of_copy, AreJoined}
 use Rattle.ucq_unify.proofs.Prefixes.{prefix_more, prefix_all}
-use Rattle.ucq_unify.proofs.Classed.{joined_numbers, linked_numbers}
 use Rattle.ucq_unify.proofs.classes.meets_answer.Goals as goal
 
 -- a variable that was read is one of the answers
@@ -15,33 +13,19 @@ among xs ys i u e l f =
 
 pub is_joined-requires-clause-term : goal.is_joined-requires-clause-term
 is_joined-requires-clause-term c = λ u e.
-    let xs = c.answers-term-items.result.now in
-    let i = among xs c.args.query.now.answers c.loop-term.term-index u c.answers-term-items.ensures.answers c.loop-term-test.true e in
-    let l : u < c.args.table.now.variables = c.requires.answers.low u i in
-    omega (arith, l, c.requires.size)
+    c.requires.answers.low u (among c.answers-term-items.result.now c.args.query.now.answers c.loop-term.term-index u c.answers-term-items.ensures.answers c.loop-term-test.true e)
 
 pub returns-then-is_joined : goal.returns-then-is_joined
 returns-then-is_joined c = λ links k.
-    let t = c.args.table.now in
     let (u, e, f) = c.is_joined.ensures.joined c.if-is_joined.true in
     let i = among c.answers-term-items.result.now c.args.query.now.answers c.loop-term.term-index u c.answers-term-items.ensures.answers c.loop-term-test.true e in
-    let m : c.args.variable < length t.existential.items = omega (arith, t.existential.ok.0, c.requires.below) in
-    let linked = subst (λ (n : ℕ). AreLinked k.joins n u) c.rule_variable-number.ensures (f k.joins k.made) in (
-      λ _. record {
-        answer = u;
-        held = i;
-        joined = joined_numbers t links c.args.classes.now k (of_copy 0 c.args.variable) (of_query u) m (c.requires.answers.low u i) linked;
-      },
-      λ _. refl,
-    )
+    (λ _. record { answer = u; held = i; joined = f links k }, λ _. refl)
 
 pub loop-term-preserved : goal.loop-term-preserved
 loop-term-preserved c = λ links k.
-    let t = c.args.table.now in
     prefix_more (λ (s : Term). (u : ℕ) → s ≡ Variable u → AreJoined links (of_copy 0 c.args.variable) (of_query u) → ⊥) c.answers-term-items.result.now
     c.loop-term.term-index (Constant 0) c.loop-term-test.true (c.loop-term.invariant links k)
-    (λ u e j. c.is_joined.ensures.apart c.if-is_joined.false u e k.joins k.made
-    (subst (λ (n : ℕ). AreLinked k.joins n u) (sym c.rule_variable-number.ensures) (linked_numbers t links c.args.classes.now k j)))
+    (λ u e j. c.is_joined.ensures.apart c.if-is_joined.false u e links k j)
 
 pub returns : goal.returns
 returns c = λ links k. (

@@ -3,6 +3,8 @@ use Rattle.std.proofs.lemmas.List.{length-set}
 use Rattle.std.proofs.lemmas.Result.{on_ok_weaker}
 use Rattle.std.proofs.Common.{set}
 use Rattle.ucq_terms.proofs.Lists.{length-positive}
+use Rattle.ucq_classes.specs.Classes.{Labels}
+use Rattle.ucq_unify.specs.Sides.{AreNumbered}
 use Rattle.ucq_unify.specs.Pieces.{pairs_of, with_head}
 use Rattle.ucq_unify.specs.Search.{HasFound, HasBranched}
 use Rattle.ucq_unify.proofs.Choices.{free_places-with_head, with_head-newest, without_head}
@@ -13,15 +15,15 @@ use Rattle.ucq_unify.proofs.search.+search.Goals as goal
 
 pub branch-loop-head-init : goal.branch-loop-head-init
 branch-loop-head-init t c = record {
-  size = refl;
+  numbers = refl;
   choice = refl;
-  found = has_branched_none c.args.query.now c.args.rule.now c.args.root c.args.choice.now c.args.place c.args.found.now.items;
+  found = has_branched_none c.args.sides.now.query.now c.args.sides.now.rule.now c.args.root c.args.choice.now c.args.place c.args.found.now.items;
 }
 
 pub branch-loop-head-preserved : goal.branch-loop-head-preserved
 branch-loop-head-preserved t c =
-    let q = c.args.query.now in
-    let r = c.args.rule.now in
+    let q = c.args.sides.now.query.now in
+    let r = c.args.sides.now.rule.now in
     let choice = c.args.choice.now in
     let place = c.args.place in
     let h = c.loop-head.head in
@@ -29,7 +31,7 @@ branch-loop-head-preserved t c =
     let l : place < length choice = omega (arith, c.requires.length, c.requires.open.within) in
     elim c.if-fits.branch [
       | branch-then-fits+in_ok-try_head w ↦ record {
-        size = ap length w.classes-is ∙ (w.try_head.ensures.size ∙ so_far.size);
+        numbers = ap (λ (v : Labels). v.numbers) w.classes-is ∙ (w.try_head.ensures.numbers ∙ so_far.numbers);
         choice = w.choice-is ∙ (w.in_ok-try_head.ensures.choice ∙ so_far.choice);
         found = has_branched_more q r c.args.root choice place h c.args.found.now.items c.loop-head.found.items c.if-fits.found.items l c.requires.open.free
             so_far.found
@@ -39,7 +41,7 @@ branch-loop-head-preserved t c =
             w.in_ok-try_head.ensures.found));
       }
       | branch-else-fits w ↦ record {
-        size = ap length w.classes-is ∙ so_far.size;
+        numbers = ap (λ (v : Labels). v.numbers) w.classes-is ∙ so_far.numbers;
         choice = w.choice-is ∙ so_far.choice;
         found = subst (λ (pieces : List (List (ℕ × ℕ))). HasBranched q r c.args.root choice place (h + 1) c.args.found.now.items pieces)
             (sym (ap (λ v. v.items) w.found-is))
@@ -49,7 +51,7 @@ branch-loop-head-preserved t c =
     ]
 
 pub search-keep-requires : goal.search-keep-requires
-search-keep-requires t c = let few : length c.args.query.now.atoms ≤ 128 = c.requires.table.few_atoms in omega (arith, few, c.requires.length)
+search-keep-requires t c = let few : length c.args.sides.now.query.now.atoms ≤ 128 = c.requires.sides.few_atoms in omega (arith, few, c.requires.length)
 
 pub search-branch-classes-requires : goal.search-branch-classes-requires
 search-branch-classes-requires t c =
@@ -57,32 +59,29 @@ search-branch-classes-requires t c =
     let l : c.in-Open.place < length c.args.choice.now = omega (arith, n.within, c.requires.length) in (
       omega arith,
       (
-        c.requires.table,
+        subst (AreNumbered c.args.sides.now.query.now c.args.sides.now.rule.now c.args.sides.now.existential.items) (sym c.next_step.ensures.numbers) c.requires.sides,
         (
-          c.next_step.ensures.size ∙ c.requires.size,
-          (
-            c.requires.length,
-            record {
-              within = n.within;
-              free = n.free;
-              grown = λ head k. grown_more c.args.query.now c.args.rule.now c.args.root c.args.choice.now c.in-Open.place head c.requires.grown n.above n.free l n.calls k;
-            },
-          ),
+          c.requires.length,
+          record {
+            within = n.within;
+            free = n.free;
+            grown = λ head k. grown_more c.args.sides.now.query.now c.args.sides.now.rule.now c.args.root c.args.choice.now c.in-Open.place head c.requires.grown n.above n.free l n.calls k;
+          },
         ),
       ),
     )
 
 pub search-returns-in-Blocked-clause-found : goal.search-returns-in-Blocked-clause-found
-search-returns-in-Blocked-clause-found t c = found_none c.args.query.now c.args.rule.now c.args.root c.args.choice.now c.args.found.now.items c.in-Blocked.ensures.step
+search-returns-in-Blocked-clause-found t c = found_none c.args.sides.now.query.now c.args.sides.now.rule.now c.args.root c.args.choice.now c.args.found.now.items c.in-Blocked.ensures.step
 
 pub search-returns-in-Closed-clause-found : goal.search-returns-in-Closed-clause-found
 search-returns-in-Closed-clause-found t c = on_ok_weaker c.keep.result
-    (λ e. found_closed c.args.query.now c.args.rule.now c.args.root c.args.choice.now c.args.found.now.items c.keep.new.found.items c.requires.grown
+    (λ e. found_closed c.args.sides.now.query.now c.args.sides.now.rule.now c.args.root c.args.choice.now c.args.found.now.items c.keep.new.found.items c.requires.grown
     c.in-Closed.ensures.step e) c.keep.ensures
 
 pub search-returns-in-Open-clause-found : goal.search-returns-in-Open-clause-found
 search-returns-in-Open-clause-found t c = on_ok_weaker c.branch-classes.result
-    (λ b. found_open c.args.query.now c.args.rule.now c.args.root c.args.choice.now c.in-Open.place c.args.found.now.items c.branch-classes.new.found.items
+    (λ b. found_open c.args.sides.now.query.now c.args.sides.now.rule.now c.args.root c.args.choice.now c.in-Open.place c.args.found.now.items c.branch-classes.new.found.items
     c.in-Open.ensures.step b) c.branch-classes.ensures.found
 
 pub try_head-search-requires : goal.try_head-search-requires
@@ -93,15 +92,12 @@ try_head-search-requires t c =
     let fewer = free_places-with_head choice place c.args.head l c.requires.open.free in (
       omega (arith, fewer),
       (
-        c.requires.table,
+        c.requires.sides,
         (
-          c.requires.size,
+          length-set choice place (Some c.args.head) ∙ c.requires.length,
           (
-            length-set choice place (Some c.args.head) ∙ c.requires.length,
-            (
-              c.requires.open.grown c.args.head c.requires.keeps,
-              length-positive (pairs_of (with_head choice place c.args.head)) (place, c.args.head) (with_head-newest choice place c.args.head l),
-            ),
+            c.requires.open.grown c.args.head c.requires.keeps,
+            length-positive (pairs_of (with_head choice place c.args.head)) (place, c.args.head) (with_head-newest choice place c.args.head l),
           ),
         ),
       ),

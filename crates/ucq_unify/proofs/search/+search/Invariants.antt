@@ -1,4 +1,4 @@
-use Rattle.std.proofs.Common.{◌≡◌, ◌+◌, ◌*◌, length}
+use Rattle.std.proofs.Common.{◌≡◌, ◌+◌, ◌*◌}
 use Rattle.ucq_unify.specs.Search.{HasBranched}
 use Rattle.ucq_unify.proofs.Choices.{free_places}
 use Rattle.ucq_unify.proofs.search.+search.Given as goal
@@ -14,7 +14,7 @@ decreases-try_head l = 3 * free_places l.choice.now
 
 abbrev pub invariant-branch-loop-head : goal.invariant-branch-loop-head
 invariant-branch-loop-head l = record {
-  size : length l.classes ≡ length l.initial.classes;
+  numbers : l.classes.numbers ≡ l.initial.classes.numbers;
   choice : l.choice ≡ l.initial.choice;
-  found : HasBranched l.query l.rule l.root l.initial.choice l.place l.head l.initial.found.items l.found.items;
+  found : HasBranched l.sides.query.now l.sides.rule.now l.root l.initial.choice l.place l.head l.initial.found.items l.found.items;
 }

@@ -1,4 +1,5 @@
 use Rattle.std.proofs.Common.{◌≡◌, ℕ, List, length, refl, sym, ap, ◌∙◌, subst, arith, Option}
+use Rattle.ucq_unify.specs.Sides.{AreNumbered}
 use Rattle.ucq_unify.specs.Search.{HasBranched, HasRooted}
 use Rattle.ucq_unify.specs.Pieces.{IsOpen}
 use Rattle.ucq_unify.proofs.Choices.{no_heads-no_pairs}
@@ -9,15 +10,19 @@ use Rattle.ucq_unify.proofs.search.search_roots.Goals as goal
 
 pub loop-root-init : goal.loop-root-init
 loop-root-init c = record {
-  size = refl;
+  numbers = refl;
   choice = refl;
-  found = has_rooted_none c.args.query.now c.args.rule.now c.args.found.now.items c.requires.none;
+  found = has_rooted_none c.args.sides.now.query.now c.args.sides.now.rule.now c.args.found.now.items c.requires.none;
 }
+
+pub branch-classes-requires-clause-sides : goal.branch-classes-requires-clause-sides
+branch-classes-requires-clause-sides c =
+    subst (AreNumbered c.args.sides.now.query.now c.args.sides.now.rule.now c.args.sides.now.existential.items) (sym c.loop-root.invariant.numbers) c.requires.sides
 
 pub branch-classes-requires-clause-open : goal.branch-classes-requires-clause-open
 branch-classes-requires-clause-open c =
-    let q = c.args.query.now in
-    let r = c.args.rule.now in
+    let q = c.args.sides.now.query.now in
+    let r = c.args.sides.now.rule.now in
     let choice = c.args.choice.now in
     let root = c.loop-root.root in
     let n = ap length c.atoms.ensures.atoms in
@@ -31,11 +36,11 @@ branch-classes-requires-clause-open c =
 
 pub loop-root-preserved : goal.loop-root-preserved
 loop-root-preserved c =
-    let q = c.args.query.now in
-    let r = c.args.rule.now in
+    let q = c.args.sides.now.query.now in
+    let r = c.args.sides.now.rule.now in
     let root = c.loop-root.root in
     record {
-      size = c.branch-classes.ensures.size ∙ c.loop-root.invariant.size;
+      numbers = c.branch-classes.ensures.numbers ∙ c.loop-root.invariant.numbers;
       choice = c.in_ok-branch.ensures.choice ∙ c.loop-root.invariant.choice;
       found = has_rooted_more q r root c.args.choice.now c.loop-root.found.items c.branch-classes.new.found.items c.requires.empty.none c.loop-root.invariant.found
           (subst (λ (xs : List (Option ℕ)). HasBranched q r root xs root (length r.heads) c.loop-root.found.items c.branch-classes.new.found.items)
@@ -45,6 +50,6 @@ loop-root-preserved c =
 pub returns : goal.returns
 returns c =
     let n = ap length c.atoms.ensures.atoms in
-    let all : c.loop-root.root ≡ length c.args.query.now.atoms = omega (arith, n) in
-    all_rooted c.args.query.now c.args.rule.now c.loop-root.found.items
-    (subst (λ (k : ℕ). HasRooted c.args.query.now c.args.rule.now k c.loop-root.found.items) all c.loop-root.invariant.found).rooted
+    let all : c.loop-root.root ≡ length c.args.sides.now.query.now.atoms = omega (arith, n) in
+    all_rooted c.args.sides.now.query.now c.args.sides.now.rule.now c.loop-root.found.items
+    (subst (λ (k : ℕ). HasRooted c.args.sides.now.query.now c.args.sides.now.rule.now k c.loop-root.found.items) all c.loop-root.invariant.found).rooted

@@ -1,5 +1,5 @@
-use Rattle.ucq_unify.specs.Table.{HasFlags}
-use Rattle.ucq_unify.proofs.table.existential_flags.Given as goal
+use Rattle.ucq_unify.specs.Sides.{HasFlags}
+use Rattle.ucq_unify.proofs.sides.existential_flags.Given as goal
 
 abbrev pub invariant-loop-variable : goal.invariant-loop-variable
 invariant-loop-variable l = HasFlags l.rule l.variable l.flags.items
