@@ -1,19 +1,22 @@
 //! Which numbers are in one class.
-ghost use Rattle.std.specs.Prelude.{◌≡◌, ◌<◌, length, IfOk};
+ghost use Rattle.std.specs.Prelude.{◌≡◌, ◌<◌, length};
 
 use crate::asserts::{equal, holds};
 use std::alloc::Global;
-use std::test::Fail;
+use std::process::Abort;
 use ucq_partition::Partition;
 
 /// Four numbers, of which 3 is joined with 1, and 1 with 2.
-fn joined(alloc: Global) -> Result<Partition, Fail>
-    ensures { IfOk result (λ classes. length classes ≡ 4) }
+fn joined(rt: &impl Abort, alloc: Global) -> Partition
+    ensures { length result ≡ 4 }
 {
-    let mut classes = Partition::new(alloc, 4)?;
+    let mut classes = match Partition::new(alloc, 4) {
+        Ok(classes) => classes,
+        Err(fault) => panic!(rt; "{fault:?}"),
+    };
     classes.join(3, 1);
     classes.join(1, 2);
-    Ok(classes)
+    classes
 }
 
 /// The label of a number that there is.
@@ -25,8 +28,8 @@ fn label(classes: &Partition, number: u32) -> u32
 }
 
 #[test]
-fn joined_numbers_have_the_least_of_them_as_label(rt: HostRuntime) -> Result<(), Fail> {
-    let classes = joined(rt.alloc())?;
+fn joined_numbers_have_the_least_of_them_as_label(rt: HostRuntime) {
+    let classes = joined(&rt, rt.alloc());
     equal(
         &rt,
         (label(&classes, 0), label(&classes, 1)),
@@ -39,7 +42,6 @@ fn joined_numbers_have_the_least_of_them_as_label(rt: HostRuntime) -> Result<(),
         (1, 1),
         "2 and 3",
     );
-    Ok(())
 }
 
 /// Whether two numbers that there are are in one class.
@@ -52,17 +54,15 @@ fn same(classes: &Partition, number: u32, other: u32) -> bool
 }
 
 #[test]
-fn a_chain_of_joins_makes_numbers_the_same(rt: HostRuntime) -> Result<(), Fail> {
-    let classes = joined(rt.alloc())?;
+fn a_chain_of_joins_makes_numbers_the_same(rt: HostRuntime) {
+    let classes = joined(&rt, rt.alloc());
     holds(&rt, same(&classes, 2, 3));
     holds(&rt, !same(&classes, 0, 3));
-    Ok(())
 }
 
 #[test]
-fn cleared_numbers_are_apart(rt: HostRuntime) -> Result<(), Fail> {
-    let mut classes = joined(rt.alloc())?;
+fn cleared_numbers_are_apart(rt: HostRuntime) {
+    let mut classes = joined(&rt, rt.alloc());
     classes.clear();
     holds(&rt, !same(&classes, 1, 2));
-    Ok(())
 }

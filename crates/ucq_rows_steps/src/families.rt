@@ -1,13 +1,12 @@
 //! Families of larger graphs, which are placed and shrunk in few steps.
 ghost use Rattle.std.specs.Prelude.{◌≡◌, ◌<◌, ◌≤◌, vec_len, IfOk};
+ghost use Rattle.ucq_terms.specs.Query.{IsStored};
 
-use crate::asserts::equal;
+use crate::asserts::{equal, room};
 use std::alloc::{AllocError, Global};
 use std::process::Abort;
-use std::test::Fail;
 use ucq_fold::{isomorphic, shrink};
-use ucq_hom::HomSpace;
-use ucq_terms::{Atom, Query, Term};
+use ucq_terms::{Atom, Query, QueryFault, Term};
 
 #[derive(Clone, Copy)]
 enum Family {
@@ -58,36 +57,52 @@ fn edges(
     Ok(atoms)
 }
 
-fn graph(alloc: Global, family: Family, count: u32, last_first: bool) -> Result<Query, Fail>
+fn graph(alloc: Global, family: Family, count: u32, last_first: bool) -> Result<Query, QueryFault>
     requires some { 0 < count }
     requires few { count ≤ 32 }
+    ensures { IfOk result IsStored }
 {
     let atoms = edges(alloc, family, count, last_first)?;
-    Ok(Query::new(alloc, Vec::new(alloc), atoms)?)
+    Query::new(alloc, Vec::new(alloc), atoms)
+}
+
+fn made(rt: &impl Abort, made: Result<Query, QueryFault>) -> Query
+    requires { IfOk made IsStored }
+    ensures { IsStored result }
+{
+    match made {
+        Ok(query) => query,
+        Err(fault) => panic!(rt; "{fault:?}"),
+    }
 }
 
 /// Whether the graph is isomorphic to itself with its edges the other way round, and how many edges its core has.
-fn measured(alloc: Global, family: Family, count: u32) -> Result<(bool, usize), Fail>
+fn measured(rt: &impl Abort, alloc: Global, family: Family, count: u32) -> (bool, usize)
     requires some { 0 < count }
     requires few { count ≤ 32 }
 {
-    let mut space = HomSpace::new(alloc)?;
-    let mut query = graph(alloc, family, count, false)?;
-    let same = isomorphic(&mut space, &query, &graph(alloc, family, count, true)?);
+    let mut space = room(rt, alloc);
+    let mut query = made(rt, graph(alloc, family, count, false));
+    let other = made(rt, graph(alloc, family, count, true));
+    let same = isomorphic(&mut space, &query, &other);
     shrink(&mut space, &mut query);
-    Ok((same, query.atoms().len()))
+    (same, query.atoms().len())
 }
 
 /// Asserts of each family of 32 edges how many edges its core has.
-fn assert_rows(rt: &impl Abort, alloc: Global, rows: &[(Family, usize)]) -> Result<(), Fail> {
+fn assert_rows(rt: &impl Abort, alloc: Global, rows: &[(Family, usize)]) {
     for (family, core) in rows {
-        equal(rt, measured(alloc, *family, 32)?, (true, *core), "family");
+        equal(
+            rt,
+            measured(rt, alloc, *family, 32),
+            (true, *core),
+            "family",
+        );
     }
-    Ok(())
 }
 
 #[test]
-fn families_are_placed_and_shrunk_to_their_cores(rt: HostRuntime) -> Result<(), Fail> {
+fn families_are_placed_and_shrunk_to_their_cores(rt: HostRuntime) {
     assert_rows(
         &rt,
         rt.alloc(),
@@ -97,12 +112,11 @@ fn families_are_placed_and_shrunk_to_their_cores(rt: HostRuntime) -> Result<(), 
             (Family::AlternatingCycle, 1),
             (Family::Copies, 1),
         ],
-    )
+    );
 }
 
 #[test]
-fn a_grid_is_placed_and_shrunk_to_a_path(rt: HostRuntime) -> Result<(), Fail> {
-    let grid = measured(rt.alloc(), Family::Grid, 24)?;
+fn a_grid_is_placed_and_shrunk_to_a_path(rt: HostRuntime) {
+    let grid = measured(&rt, rt.alloc(), Family::Grid, 24);
     equal(&rt, grid, (true, 6), "grid");
-    Ok(())
 }

@@ -1,12 +1,11 @@
 //! Generated queries and rules, on which the search and the plain definition agree.
 ghost use Rattle.std.specs.Prelude.{◌≡◌, ◌<◌, ◌≤◌, vec_len, IfOk};
 
-use crate::asserts::{equal, holds};
+use crate::asserts::{equal, holds, sure};
 use crate::plain::{Map, is_single_piece};
 use std::alloc::{AllocError, Global};
 use std::process::Abort;
-use std::test::Fail;
-use ucq_terms::{Atom, Piece, Query, QueryFault, Rule, Term};
+use ucq_terms::{Atom, NoMemory, Piece, Query, QueryFault, Rule, Term};
 use ucq_unify::single_pieces;
 
 /// Numbers that look like chance.
@@ -64,27 +63,40 @@ fn answers(alloc: Global, dice: &mut Dice) -> Result<Vec<Term>, AllocError>
     }
 }
 
-// A query of up to four atoms and up to two answers, or none where an answer is unsafe.
-fn query(alloc: Global, dice: &mut Dice) -> Result<Option<Query>, Fail> {
+// A query of up to four atoms and up to two answers, of which one may be unsafe.
+fn drawn(alloc: Global, dice: &mut Dice) -> Result<Query, QueryFault> {
     let count = 1 + dice.roll(4);
     let atoms = atoms(alloc, dice, count)?;
-    match Query::new(alloc, answers(alloc, dice)?, atoms) {
-        Ok(query) => Ok(Some(query)),
-        Err(QueryFault::Unsafe { place: _ }) => Ok(None),
-        Err(fault) => Err(fault)?,
+    Query::new(alloc, answers(alloc, dice)?, atoms)
+}
+
+// Such a query, or none where an answer is unsafe.
+fn query(rt: &impl Abort, alloc: Global, dice: &mut Dice) -> Option<Query> {
+    match drawn(alloc, dice) {
+        Ok(query) => Some(query),
+        Err(QueryFault::Unsafe { place: _ }) => None,
+        Err(fault) => panic!(rt; "{fault:?}"),
     }
 }
 
-// Up to three head atoms, of which the last may be a copy of the first.
-fn rule(alloc: Global, dice: &mut Dice) -> Result<Rule, Fail> {
+// Up to three atoms, of which the last may be a copy of the first.
+fn heads(alloc: Global, dice: &mut Dice) -> Result<Vec<Atom>, AllocError>
+    ensures { IfOk result (λ v. 0 < vec_len v × vec_len v ≤ 3) }
+{
     let count = 1 + dice.roll(2);
     let mut heads = atoms(alloc, dice, count)?;
     if dice.roll(3) == 0 {
         let copy = heads[0].clone()?;
         heads.push(copy)?;
     }
+    Ok(heads)
+}
+
+// A rule with such a head.
+fn rule(alloc: Global, dice: &mut Dice) -> Result<Rule, NoMemory> {
+    let heads = heads(alloc, dice)?;
     let body = atoms(alloc, dice, 1)?;
-    Ok(Rule::new(alloc, heads, body)?)
+    Rule::new(alloc, heads, body)
 }
 
 // The map of a number below 256: two bits for each place.
@@ -99,12 +111,28 @@ fn map_of(number: u32) -> Map {
     map
 }
 
+fn count_of_pairs(map: &Map) -> usize {
+    let mut count = 0usize;
+    for head in map {
+        count = count.saturating_add(usize::from(head.is_some()));
+    }
+    count
+}
+
+fn has_pair(map: &Map, place: u32, head: u32) -> bool {
+    match map.get(place as usize) {
+        Some(Some(other)) => *other == head,
+        _ => false,
+    }
+}
+
 fn is_the_map(piece: &Piece, map: &Map) -> bool {
-    let count = map.iter().filter(|head| head.is_some()).count();
-    count == piece.pairs.len()
-        && piece.pairs.iter().all(|(place, head)| {
-            map.get(*place as usize).copied().flatten() == Some(*head)
-        })
+    for (place, head) in piece.pairs.iter() {
+        if !has_pair(map, *place, *head) {
+            return false;
+        }
+    }
+    piece.pairs.len() == count_of_pairs(map)
 }
 
 /// What was compared, and the single pieces that were found, with those of more than one pair.
@@ -134,43 +162,42 @@ fn count_of(pieces: &[Piece], map: &Map) -> usize {
     count
 }
 
-// Compares the search and the definition on all maps.
-fn compare(
+// Asserts that the pieces have the map once if the definition holds of it, else never, and gives how often that is.
+fn compare_map(
     rt: &impl Abort,
     alloc: Global,
     query: &Query,
     rule: &Rule,
-    tally: &mut Tally,
-) -> Result<(), Fail> {
-    let pieces = single_pieces(alloc, query, rule)?;
-    let mut wanted = 0usize;
-    for number in 0..256u32 {
-        let map = map_of(number);
-        let expected = usize::from(is_single_piece(alloc, query, rule, &map)?);
-        equal(rt, count_of(pieces.as_slice(), &map), expected, "a map");
-        wanted = wanted.saturating_add(expected);
-    }
-    equal(rt, pieces.len(), wanted, "all maps");
-    count(tally, pieces.as_slice());
-    Ok(())
+    pieces: &[Piece],
+    map: &Map,
+) -> usize {
+    let expected = usize::from(sure(rt, is_single_piece(alloc, query, rule, map)));
+    equal(rt, count_of(pieces, map), expected, "a map");
+    expected
 }
 
-// Compares them on one more rule, and a query if no answer of it is unsafe.
-fn compare_next(
-    rt: &impl Abort,
-    alloc: Global,
-    dice: &mut Dice,
-    tally: &mut Tally,
-) -> Result<(), Fail> {
-    let rule = rule(alloc, dice)?;
-    match query(alloc, dice)? {
-        Some(query) => compare(rt, alloc, &query, &rule, tally),
-        None => Ok(()),
+// Asserts that the pieces are those of which the definition holds.
+fn compare(rt: &impl Abort, alloc: Global, query: &Query, rule: &Rule, pieces: &[Piece]) {
+    let mut wanted = 0usize;
+    for number in 0..256u32 {
+        let more = compare_map(rt, alloc, query, rule, pieces, &map_of(number));
+        wanted = wanted.saturating_add(more);
+    }
+    equal(rt, pieces.len(), wanted, "all maps");
+}
+
+// Compares the search and the definition on one more rule, and a query if no answer of it is unsafe.
+fn compare_next(rt: &impl Abort, alloc: Global, dice: &mut Dice, tally: &mut Tally) {
+    let rule = sure(rt, rule(alloc, dice));
+    if let Some(query) = query(rt, alloc, dice) {
+        let pieces = sure(rt, single_pieces(alloc, &query, &rule));
+        compare(rt, alloc, &query, &rule, pieces.as_slice());
+        count(tally, pieces.as_slice());
     }
 }
 
 #[test]
-fn search_agrees_with_the_plain_definition(rt: HostRuntime) -> Result<(), Fail> {
+fn search_agrees_with_the_plain_definition(rt: HostRuntime) {
     let mut dice = Dice { state: 1 };
     let mut tally = Tally {
         compared: 0,
@@ -178,10 +205,9 @@ fn search_agrees_with_the_plain_definition(rt: HostRuntime) -> Result<(), Fail> 
         larger: 0,
     };
     for _ in 0..600u32 {
-        compare_next(&rt, rt.alloc(), &mut dice, &mut tally)?;
+        compare_next(&rt, rt.alloc(), &mut dice, &mut tally);
     }
     holds(&rt, tally.compared > 500);
     holds(&rt, tally.pieces > 600);
     holds(&rt, tally.larger > 50);
-    Ok(())
 }

@@ -1,11 +1,9 @@
 //! What the space tells after a search.
-use crate::asserts::equal;
+use crate::asserts::{asked, equal, room};
 use std::alloc::Global;
 use std::process::Abort;
-use std::test::Fail;
 use ucq_hom::{HomSpace, covers, find_without};
 use ucq_terms::{Query, Term};
-use ucq_worked::query;
 
 /// What the space tells of the variable: another variable's number, or none.
 fn image(space: &HomSpace, variable: u32) -> Option<u32> {
@@ -46,19 +44,18 @@ fn wanted(found: bool, first: Option<u32>, second: Option<u32>, third: Option<u3
     }
 }
 
-fn told_by(alloc: Global, space: &mut HomSpace, from: &str, to: &str) -> Result<Look, Fail> {
-    let found = covers(space, &query(alloc, from)?, &query(alloc, to)?);
-    Ok(told(space, found))
+fn told_by(rt: &impl Abort, alloc: Global, space: &mut HomSpace, from: &str, to: &str) -> Look {
+    let found = covers(space, &asked(rt, alloc, from), &asked(rt, alloc, to));
+    told(space, found)
 }
 
 #[test]
-fn images_are_those_of_the_last_search(rt: HostRuntime) -> Result<(), Fail> {
-    let mut space = HomSpace::new(rt.alloc())?;
-    let first = told_by(rt.alloc(), &mut space, "?A pAB pBa", "?A pAB pBa pAC")?;
+fn images_are_those_of_the_last_search(rt: HostRuntime) {
+    let mut space = room(&rt, rt.alloc());
+    let first = told_by(&rt, rt.alloc(), &mut space, "?A pAB pBa", "?A pAB pBa pAC");
     equal(&rt, first, wanted(true, Some(0), Some(1), None), "found");
-    let second = told_by(rt.alloc(), &mut space, "?A pAB pBa pAC", "?A pAB")?;
+    let second = told_by(&rt, rt.alloc(), &mut space, "?A pAB pBa pAC", "?A pAB");
     equal(&rt, second, wanted(false, None, None, None), "none");
-    Ok(())
 }
 
 /// What is told of a search of the query in itself without the atom at that place, where it has one.
@@ -74,22 +71,20 @@ fn assert_without(rt: &impl Abort, space: &mut HomSpace, query: &Query, rows: &[
 }
 
 #[test]
-fn images_are_told_of_a_query_without_an_atom(rt: HostRuntime) -> Result<(), Fail> {
-    let mut space = HomSpace::new(rt.alloc())?;
-    let query = query(rt.alloc(), "?A pAB pBa pAC")?;
+fn images_are_told_of_a_query_without_an_atom(rt: HostRuntime) {
+    let mut space = room(&rt, rt.alloc());
+    let query = asked(&rt, rt.alloc(), "?A pAB pBa pAC");
     let found = wanted(true, Some(0), Some(1), Some(1));
     let none = wanted(false, None, None, None);
     assert_without(&rt, &mut space, &query, &[(2, found), (1, none)]);
-    Ok(())
 }
 
 #[test]
-fn a_cleared_space_tells_no_image(rt: HostRuntime) -> Result<(), Fail> {
-    let mut space = HomSpace::new(rt.alloc())?;
-    let query = query(rt.alloc(), "?A pAB pBa pAC")?;
+fn a_cleared_space_tells_no_image(rt: HostRuntime) {
+    let mut space = room(&rt, rt.alloc());
+    let query = asked(&rt, rt.alloc(), "?A pAB pBa pAC");
     let found = told_without(&mut space, &query, 2);
     space.clear();
     let cleared = told(&space, found.found);
     equal(&rt, cleared, wanted(true, None, None, None), "cleared");
-    Ok(())
 }

@@ -1,32 +1,34 @@
 //! The single pieces of queries with rules.
 ghost use Rattle.std.specs.Prelude.{◌≡◌, ◌<◌, ◌≤◌, vec_len, IfOk};
 
-use crate::asserts::{equal, reads};
+use crate::asserts::{asked, equal, reads, ruled, sure};
 use crate::shown::shown_pieces;
 use std::alloc::{AllocError, Global};
 use std::process::Abort;
-use std::test::Fail;
-use ucq_terms::{Atom, Query, Term};
+use ucq_terms::{Atom, Query, QueryFault, Rule, Term};
 use ucq_unify::single_pieces;
-use ucq_worked::{query, rule};
 
 /// The single pieces of the query with the rule, as texts in order.
-fn pieces_of(alloc: Global, head: &str, question: &str) -> Result<String, Fail> {
-    let pieces = single_pieces(alloc, &query(alloc, question)?, &rule(alloc, head)?)?;
-    Ok(shown_pieces(alloc, pieces.as_slice())?)
+fn pieces_of(rt: &impl Abort, alloc: Global, query: &Query, rule: &Rule) -> String {
+    let pieces = sure(rt, single_pieces(alloc, query, rule));
+    sure(rt, shown_pieces(alloc, pieces.as_slice()))
 }
 
 /// Asserts of each row that these are the single pieces, each once.
-fn assert_rows(rt: &impl Abort, alloc: Global, rows: &[(&str, &str, &str)]) -> Result<(), Fail> {
+fn assert_rows(rt: &impl Abort, alloc: Global, rows: &[(&str, &str, &str)]) {
     for (head, question, wanted) in rows {
-        let found = pieces_of(alloc, head, question)?;
+        let found = pieces_of(
+            rt,
+            alloc,
+            &asked(rt, alloc, question),
+            &ruled(rt, alloc, head),
+        );
         reads(rt, found.as_bytes(), wanted);
     }
-    Ok(())
 }
 
 #[test]
-fn each_single_piece_is_given_once(rt: HostRuntime) -> Result<(), Fail> {
+fn each_single_piece_is_given_once(rt: HostRuntime) {
     assert_rows(
         &rt,
         rt.alloc(),
@@ -42,7 +44,7 @@ fn each_single_piece_is_given_once(rt: HostRuntime) -> Result<(), Fail> {
             ("pXY pXY <- sX", "? pXY", "0-0 0-1 "),
             ("pXY <- sX", "? pX", ""),
         ],
-    )
+    );
 }
 
 /// That many atoms of one predicate, whose second variable is one for all or one for each.
@@ -59,28 +61,34 @@ fn pairs(alloc: Global, count: u32, shared: bool) -> Result<Vec<Atom>, AllocErro
     Ok(atoms)
 }
 
-/// How many single pieces the query of that many atoms has.
-fn count_of(alloc: Global, count: u32, shared: bool) -> Result<usize, Fail>
+/// The query of that many atoms.
+fn paired(alloc: Global, count: u32, shared: bool) -> Result<Query, QueryFault>
     requires some { 0 < count }
     requires few { count ≤ 128 }
 {
-    let query = Query::new(alloc, Vec::new(alloc), pairs(alloc, count, shared)?)?;
-    let pieces = single_pieces(alloc, &query, &rule(alloc, "pXY <- sX")?)?;
-    Ok(pieces.len())
+    Query::new(alloc, Vec::new(alloc), pairs(alloc, count, shared)?)
+}
+
+/// How many single pieces the query of that many atoms has.
+fn count_of(rt: &impl Abort, alloc: Global, count: u32, shared: bool) -> usize
+    requires some { 0 < count }
+    requires few { count ≤ 128 }
+{
+    let query = sure(rt, paired(alloc, count, shared));
+    let rule = ruled(rt, alloc, "pXY <- sX");
+    sure(rt, single_pieces(alloc, &query, &rule)).len()
 }
 
 /// Asserts of each number of atoms, whose second variables are one or not, how many single pieces they have.
-fn assert_counts(rt: &impl Abort, alloc: Global, rows: &[(u32, bool, usize)]) -> Result<(), Fail> {
+fn assert_counts(rt: &impl Abort, alloc: Global, rows: &[(u32, bool, usize)]) {
     for (count, shared, pieces) in rows {
-        if 0 < *count && *count <= 128 {
-            equal(rt, count_of(alloc, *count, *shared)?, *pieces, "atoms");
-        }
+        assert!(rt; 0 < *count && *count <= 128);
+        equal(rt, count_of(rt, alloc, *count, *shared), *pieces, "atoms");
     }
-    Ok(())
 }
 
 #[test]
-fn many_atoms_of_one_predicate_take_few_steps(rt: HostRuntime) -> Result<(), Fail> {
+fn many_atoms_of_one_predicate_take_few_steps(rt: HostRuntime) {
     assert_counts(
         &rt,
         rt.alloc(),
@@ -90,5 +98,5 @@ fn many_atoms_of_one_predicate_take_few_steps(rt: HostRuntime) -> Result<(), Fai
             (128, false, 128),
             (128, true, 1),
         ],
-    )
+    );
 }

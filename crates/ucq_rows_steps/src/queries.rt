@@ -1,43 +1,36 @@
 //! What queries, problems and unions are made of.
 ghost use Rattle.std.specs.Prelude.{◌≡◌, ◌<◌, length, vec_len, IfOk};
 
-use crate::asserts::{equal, holds, reads};
+use crate::asserts::{asked, equal, holds, reads, sure};
 use crate::shown::shown;
 use std::alloc::{AllocError, Global};
 use std::process::Abort;
-use std::test::Fail;
-use ucq_terms::{Atom, Query, QueryFault, Term, Union};
+use ucq_terms::{Atom, Problem, Query, QueryFault, Term, Union};
 use ucq_worked::{WorkedFault, problem, query};
 
-fn made(alloc: Global, text: &str) -> Result<Vec<u8>, Fail> {
-    Ok(shown(alloc, &query(alloc, text)?)?)
-}
-
 #[test]
-fn new_query_has_each_atom_once_and_numbers_answers_first(rt: HostRuntime) -> Result<(), Fail> {
-    let text = made(rt.alloc(), "?F pHF qFa pHF")?;
-    reads(&rt, text.as_slice(), "?A pBA qAa");
-    Ok(())
+fn new_query_has_each_atom_once_and_numbers_answers_first(rt: HostRuntime) {
+    let query = asked(&rt, rt.alloc(), "?F pHF qFa pHF");
+    reads(&rt, shown(&rt, rt.alloc(), &query).as_slice(), "?A pBA qAa");
 }
 
 /// The place of the first unsafe answer, where there is one.
-fn unsafe_place(alloc: Global, text: &str) -> Result<Option<u32>, Fail> {
+fn unsafe_place(rt: &impl Abort, alloc: Global, text: &str) -> Option<u32> {
     match query(alloc, text) {
-        Ok(_) => Ok(None),
-        Err(WorkedFault::Query(QueryFault::Unsafe { place })) => Ok(Some(place)),
-        Err(fault) => Err(fault)?,
+        Ok(_) => None,
+        Err(WorkedFault::Query(QueryFault::Unsafe { place })) => Some(place),
+        Err(fault) => panic!(rt; "{fault:?}"),
     }
 }
 
-fn assert_places(rt: &impl Abort, alloc: Global, rows: &[(&str, Option<u32>)]) -> Result<(), Fail> {
+fn assert_places(rt: &impl Abort, alloc: Global, rows: &[(&str, Option<u32>)]) {
     for (text, place) in rows {
-        equal(rt, unsafe_place(alloc, text)?, *place, text);
+        equal(rt, unsafe_place(rt, alloc, text), *place, text);
     }
-    Ok(())
 }
 
 #[test]
-fn new_query_tells_the_first_unsafe_answer(rt: HostRuntime) -> Result<(), Fail> {
+fn new_query_tells_the_first_unsafe_answer(rt: HostRuntime) {
     assert_places(
         &rt,
         rt.alloc(),
@@ -48,7 +41,7 @@ fn new_query_tells_the_first_unsafe_answer(rt: HostRuntime) -> Result<(), Fail> 
             ("?A pB", Some(0)),
             ("?B pB", None),
         ],
-    )
+    );
 }
 
 /// That many different atoms.
@@ -62,69 +55,67 @@ fn different(alloc: Global, count: u32) -> Result<Vec<Atom>, AllocError>
     Ok(all)
 }
 
-/// How many different atoms there are, where they are too many for a query.
-fn too_many(alloc: Global, count: u32) -> Result<Option<u32>, Fail>
+/// The query of that many different atoms.
+fn query_of(alloc: Global, count: u32) -> Result<Query, QueryFault>
     requires { 0 < count }
 {
-    match Query::new(alloc, Vec::new(alloc), different(alloc, count)?) {
-        Ok(_) => Ok(None),
-        Err(QueryFault::TooManyAtoms { count }) => Ok(Some(count)),
-        Err(fault) => Err(fault)?,
+    Query::new(alloc, Vec::new(alloc), different(alloc, count)?)
+}
+
+/// How many different atoms there are, where they are too many for a query.
+fn too_many(rt: &impl Abort, alloc: Global, count: u32) -> Option<u32>
+    requires { 0 < count }
+{
+    match query_of(alloc, count) {
+        Ok(_) => None,
+        Err(QueryFault::TooManyAtoms { count }) => Some(count),
+        Err(fault) => panic!(rt; "{fault:?}"),
     }
 }
 
 #[test]
-fn a_query_of_129_different_atoms_is_none(rt: HostRuntime) -> Result<(), Fail> {
-    let count = too_many(rt.alloc(), 129)?;
+fn a_query_of_129_different_atoms_is_none(rt: HostRuntime) {
+    let count = too_many(&rt, rt.alloc(), 129);
     equal(&rt, count, Some(129), "129 atoms");
-    Ok(())
-}
-
-/// Whether the query of so many different atoms has them all.
-fn has_all(alloc: Global, count: u32) -> Result<bool, Fail>
-    requires { 0 < count }
-{
-    let query = Query::new(alloc, Vec::new(alloc), different(alloc, count)?)?;
-    Ok(query.atoms() == different(alloc, count)?.as_slice())
 }
 
 #[test]
-fn a_query_of_128_different_atoms_has_them_all(rt: HostRuntime) -> Result<(), Fail> {
-    holds(&rt, has_all(rt.alloc(), 128)?);
-    Ok(())
+fn a_query_of_128_different_atoms_has_them_all(rt: HostRuntime) {
+    let query = sure(&rt, query_of(rt.alloc(), 128));
+    let atoms = sure(&rt, different(rt.alloc(), 128));
+    holds(&rt, query.atoms() == atoms.as_slice());
 }
 
-/// The query, and it with its variables numbered anew, without the first atom.
-fn rests(alloc: Global, mut query: Query) -> Result<(Vec<u8>, Vec<u8>), Fail> {
+/// The query without its first atom.
+fn rest(mut query: Query) -> Query {
     if query.answers().is_empty() && query.atoms().len() > 1 {
         query.remove_atom(0);
     }
-    Ok((shown(alloc, &query)?, shown(alloc, &query.rename()?)?))
+    query
 }
 
 #[test]
-fn renamed_rest_is_numbered_from_0(rt: HostRuntime) -> Result<(), Fail> {
-    let (rest, renamed) = rests(rt.alloc(), query(rt.alloc(), "? pA qB")?)?;
-    reads(&rt, rest.as_slice(), "? qB");
-    reads(&rt, renamed.as_slice(), "? qA");
-    Ok(())
+fn renamed_rest_is_numbered_from_0(rt: HostRuntime) {
+    let rest = rest(asked(&rt, rt.alloc(), "? pA qB"));
+    reads(&rt, shown(&rt, rt.alloc(), &rest).as_slice(), "? qB");
+    let renamed = sure(&rt, rest.rename());
+    reads(&rt, shown(&rt, rt.alloc(), &renamed).as_slice(), "? qA");
 }
 
 /// Whether a copy of the first query is the same as the second.
-fn is_same(alloc: Global, first: &str, second: &str) -> Result<bool, Fail> {
-    let copy = query(alloc, first)?.copy()?;
-    Ok(copy.same(&query(alloc, second)?))
+fn is_same(rt: &impl Abort, alloc: Global, first: &str, second: &str) -> bool {
+    let copy = sure(rt, asked(rt, alloc, first).copy());
+    copy.same(&asked(rt, alloc, second))
 }
 
-fn assert_same(rt: &impl Abort, alloc: Global, rows: &[(&str, &str, bool)]) -> Result<(), Fail> {
+fn assert_same(rt: &impl Abort, alloc: Global, rows: &[(&str, &str, bool)]) {
     for (first, second, wanted) in rows {
-        equal(rt, is_same(alloc, first, second)?, *wanted, first);
+        equal(rt, is_same(rt, alloc, first, second), *wanted, first);
     }
-    Ok(())
 }
 
 #[test]
-fn queries_are_the_same_with_equal_answers_and_atoms(rt: HostRuntime) -> Result<(), Fail> {
+fn queries_are_the_same_with_equal_answers_and_atoms(rt: HostRuntime) {
     assert_same(
         &rt,
         rt.alloc(),
@@ -134,35 +125,49 @@ fn queries_are_the_same_with_equal_answers_and_atoms(rt: HostRuntime) -> Result<
             ("?A pAB", "?B pAB", false),
             ("? qB", "? pA qB", false),
         ],
-    )
+    );
+}
+
+fn posed(rt: &impl Abort, alloc: Global, rules: &[&str], question: &str) -> Problem {
+    sure(rt, problem(alloc, rules, question))
 }
 
 /// Whether the problem with one rule is the same as another.
-fn is_same_problem(alloc: Global, rules: &[&str], question: &str) -> Result<bool, Fail> {
-    let given = problem(alloc, &["qZX <- pXY"], "? pa")?;
-    Ok(given.same(&problem(alloc, rules, question)?))
+fn is_same_problem(rt: &impl Abort, alloc: Global, rules: &[&str], question: &str) -> bool {
+    let given = posed(rt, alloc, &["qZX <- pXY"], "? pa");
+    given.same(&posed(rt, alloc, rules, question))
 }
 
 #[test]
-fn problems_are_the_same_with_equal_rules_and_queries(rt: HostRuntime) -> Result<(), Fail> {
-    holds(&rt, is_same_problem(rt.alloc(), &["qAB <- pBC"], "? pa")?);
-    holds(&rt, !is_same_problem(rt.alloc(), &[], "? pa")?);
-    holds(&rt, !is_same_problem(rt.alloc(), &["qZX <- pXY"], "? pb")?);
-    Ok(())
+fn problems_are_the_same_with_equal_rules_and_queries(rt: HostRuntime) {
+    let alloc = rt.alloc();
+    holds(&rt, is_same_problem(&rt, alloc, &["qAB <- pBC"], "? pa"));
+    holds(&rt, !is_same_problem(&rt, alloc, &[], "? pa"));
+    holds(&rt, !is_same_problem(&rt, alloc, &["qZX <- pXY"], "? pb"));
 }
 
-fn union_of(alloc: Global, first: &str, second: &str) -> Result<Union, Fail>
-    ensures { IfOk result (λ u. length u ≡ 2) }
+fn union_of(rt: &impl Abort, alloc: Global, first: &str, second: &str) -> Union
+    ensures { length result ≡ 2 }
 {
-    let queries = vec![in alloc; query(alloc, first)?, query(alloc, second)?]?;
-    Ok(Union::new(queries))
+    let (first, second) = (asked(rt, alloc, first), asked(rt, alloc, second));
+    match vec![in alloc; first, second] {
+        Ok(queries) => Union::new(queries),
+        Err(_) => panic!(rt; "no memory"),
+    }
 }
 
 #[test]
-fn union_gives_its_queries_in_order(rt: HostRuntime) -> Result<(), Fail> {
-    let union = union_of(rt.alloc(), "? pA", "?A qA")?;
+fn union_gives_its_queries_in_order(rt: HostRuntime) {
+    let union = union_of(&rt, rt.alloc(), "? pA", "?A qA");
     equal(&rt, union.len(), 2, "queries");
-    reads(&rt, shown(rt.alloc(), union.query(0))?.as_slice(), "? pA");
-    reads(&rt, shown(rt.alloc(), union.query(1))?.as_slice(), "?A qA");
-    Ok(())
+    reads(
+        &rt,
+        shown(&rt, rt.alloc(), union.query(0)).as_slice(),
+        "? pA",
+    );
+    reads(
+        &rt,
+        shown(&rt, rt.alloc(), union.query(1)).as_slice(),
+        "?A qA",
+    );
 }

@@ -1,5 +1,7 @@
 //! Texts of what is compared.
+use crate::asserts::sure;
 use std::alloc::{AllocError, Global};
+use std::process::Abort;
 use ucq_terms::{Atom, Piece, Query, Rule, Term};
 
 fn letter(term: Term) -> u8 {
@@ -29,21 +31,30 @@ fn push_atoms(text: &mut Vec<u8>, atoms: &[Atom]) -> Result<(), AllocError> {
     Ok(())
 }
 
+fn push_query(text: &mut Vec<u8>, query: &Query) -> Result<(), AllocError> {
+    text.push(b'?')?;
+    push_terms(text, query.answers())?;
+    push_atoms(text, query.atoms())
+}
+
 /// The query as its text is spelled, with its variables from `A` on.
-pub(crate) fn shown(alloc: Global, query: &Query) -> Result<Vec<u8>, AllocError> {
-    let mut text = vec![in alloc; b'?']?;
-    push_terms(&mut text, query.answers())?;
-    push_atoms(&mut text, query.atoms())?;
-    Ok(text)
+pub(crate) fn shown(rt: &impl Abort, alloc: Global, query: &Query) -> Vec<u8> {
+    let mut text = Vec::new(alloc);
+    sure(rt, push_query(&mut text, query));
+    text
+}
+
+fn push_rule(text: &mut Vec<u8>, rule: &Rule) -> Result<(), AllocError> {
+    push_atoms(text, rule.heads())?;
+    text.extend_from_slice(b" <-")?;
+    push_atoms(text, rule.body())
 }
 
 /// The rule as its text is spelled, with its variables from `A` on and a blank before it.
-pub(crate) fn shown_rule(alloc: Global, rule: &Rule) -> Result<Vec<u8>, AllocError> {
+pub(crate) fn shown_rule(rt: &impl Abort, alloc: Global, rule: &Rule) -> Vec<u8> {
     let mut text = Vec::new(alloc);
-    push_atoms(&mut text, rule.heads())?;
-    text.extend_from_slice(b" <-")?;
-    push_atoms(&mut text, rule.body())?;
-    Ok(text)
+    sure(rt, push_rule(&mut text, rule));
+    text
 }
 
 /// The piece as a text like `0-0,1-0`: the place of each atom, and that of its head.
