@@ -1,7 +1,9 @@
 //! Answers over facts.
+use crate::asserts::{equal, sure};
 use crate::harness::ends;
 use crate::university::{UNION, UNIVERSITY};
-use std::test::Fail;
+use std::alloc::Global;
+use std::process::Abort;
 
 /// Files, and the union with its answers. The answers were worked out by hand.
 const ANSWERED: [(&str, &str); 7] = [
@@ -32,42 +34,57 @@ const ANSWERED: [(&str, &str); 7] = [
     ),
 ];
 
+/// Asserts of each file that its run with answers finishes with this union and these answers.
+fn assert_answered(rt: &impl Abort, alloc: Global, rows: &[(&str, &str)]) {
+    for (file, text) in rows {
+        let out = sure(rt, format!(in alloc; "% finished\n% queries {text}"));
+        let found = ends(rt, alloc, "--answers f", file, 0, out.as_str(), "");
+        equal(rt, found, true, file);
+    }
+}
+
 #[test]
-fn a_union_is_answered_over_the_facts(rt: HostRuntime) -> Result<(), Fail> {
-    for (file, text) in ANSWERED {
-        let out = format!(in rt.alloc(); "% finished\n% queries {text}")?;
-        assert!(rt;
-            ends(rt.alloc(), &["--answers", "f"], file, 0, out.as_str(), "")?,
-            "{file}"
+fn a_union_is_answered_over_the_facts(rt: HostRuntime) {
+    assert_answered(&rt, rt.alloc(), &ANSWERED);
+}
+
+#[test]
+fn ann_bob_and_cat_work_for_a_department(rt: HostRuntime) {
+    let text = sure(
+        &rt,
+        format!(in rt.alloc(); "{UNION}% answers 3\n% (ann)\n% (bob)\n% (cat)\n"),
+    );
+    assert_answered(&rt, rt.alloc(), &[(UNIVERSITY, text.as_str())]);
+}
+
+const SMALL: &str = "% finished\n% queries 3\n% atoms 5\n% answers 3\n";
+
+const LARGE: &str = "% finished\n% queries 202\n% atoms 403\n% answers 202\n";
+
+const CUT: &str =
+    "% cut rows 2\n?(X0) :- r(X0,X1), c0(X1).\n?(X0) :- c1(X1), r(X0,X1).\n% left ?(X0) :- d(X0).\n";
+
+/// Words, the status and the output.
+const MADE: [(&str, u8, &str); 4] = [
+    ("--make 1", 0, SMALL),
+    ("--make 200 --workers 1", 0, LARGE),
+    ("--workers 8 --make 200", 0, LARGE),
+    ("--make 3 --budget 2", 5, CUT),
+];
+
+/// Asserts of the words how their run over no file ends.
+fn assert_made(rt: &impl Abort, alloc: Global, rows: &[(&str, u8, &str)]) {
+    for (words, status, out) in rows {
+        equal(
+            rt,
+            ends(rt, alloc, words, "", *status, out, ""),
+            true,
+            words,
         );
     }
-    Ok(())
 }
 
 #[test]
-fn ann_bob_and_cat_work_for_a_department(rt: HostRuntime) -> Result<(), Fail> {
-    let out = format!(in rt.alloc();
-        "% finished\n% queries {UNION}% answers 3\n% (ann)\n% (bob)\n% (cat)\n"
-    )?;
-    let words = ["f", "--answers"];
-    assert!(rt; ends(rt.alloc(), &words, UNIVERSITY, 0, out.as_str(), "")?);
-    Ok(())
-}
-
-#[test]
-fn a_made_input_has_its_counts(rt: HostRuntime) -> Result<(), Fail> {
-    let small = "% finished\n% queries 3\n% atoms 5\n% answers 3\n";
-    let large = "% finished\n% queries 202\n% atoms 403\n% answers 202\n";
-    let cut =
-        "% cut rows 2\n?(X0) :- r(X0,X1), c0(X1).\n?(X0) :- c1(X1), r(X0,X1).\n% left ?(X0) :- d(X0).\n";
-    let rows: [(&[&str], u8, &str); 4] = [
-        (&["--make", "1"], 0, small),
-        (&["--make", "200", "--workers", "1"], 0, large),
-        (&["--workers", "8", "--make", "200"], 0, large),
-        (&["--make", "3", "--budget", "2"], 5, cut),
-    ];
-    for (words, status, out) in rows {
-        assert!(rt; ends(rt.alloc(), words, "", status, out, "")?);
-    }
-    Ok(())
+fn a_made_input_has_its_counts(rt: HostRuntime) {
+    assert_made(&rt, rt.alloc(), &MADE);
 }

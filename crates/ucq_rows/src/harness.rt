@@ -1,8 +1,10 @@
 //! Runs over files and sinks in memory.
+use crate::asserts::sure;
 use std::alloc::{AllocError, Global};
+use std::process::Abort;
 use std::sync::Wait;
 use std::thread::Threads;
-use ucq_outside::{Gate, MemoryShelf, MemorySink, NoMemoryOutside};
+use ucq_outside::{Gate, MemoryShelf, MemorySink, OpenGate};
 use ucq_run::{run, run_alone};
 
 /// What a run answered, printed and told.
@@ -13,74 +15,94 @@ pub struct Told {
     pub err: Vec<u8>,
 }
 
-fn words_of(alloc: Global, words: &[&str]) -> Result<Vec<String>, AllocError> {
-    let mut all = Vec::new(alloc);
-    for word in words {
-        all.push(String::from_str(alloc, word)?)?;
+impl Told {
+    /// Whether the run ended so.
+    pub fn is(&self, status: u8, out: &str, err: &str) -> bool {
+        self.status == status
+            && self.out.as_slice() == out.as_bytes()
+            && self.err.as_slice() == err.as_bytes()
     }
-    Ok(all)
+
+    /// Whether the run ended with this status, and its output begins so.
+    pub fn begins(&self, status: u8, beginning: &str) -> bool {
+        self.status == status && self.out.as_slice().starts_with(beginning.as_bytes())
+    }
 }
 
-fn sink(alloc: Global, failing: &[u64]) -> Result<MemorySink, AllocError> {
-    match MemorySink::new(alloc, failing.to_vec(alloc)?) {
-        Ok(sink) => Ok(sink),
-        Err(NoMemoryOutside) => Err(AllocError),
+/// The words of a text that has spaces between them.
+fn words_of(alloc: Global, text: &str) -> Result<Vec<String>, AllocError> {
+    let mut words = Vec::new(alloc);
+    for word in text.split_whitespace() {
+        words.push(String::from_str(alloc, word)?)?;
     }
+    Ok(words)
+}
+
+/// A sink whose calls in the list fail.
+fn sink(rt: &impl Abort, alloc: Global, failing: &[u64]) -> MemorySink {
+    let failing = sure(rt, failing.to_vec(alloc));
+    sure(rt, MemorySink::new(alloc, failing))
+}
+
+fn held(alloc: Global, files: &[(&str, &[u8])]) -> Result<Vec<(String, Vec<u8>)>, AllocError> {
+    let mut held = Vec::new(alloc);
+    for (name, bytes) in files {
+        let name = String::from_str(alloc, name)?;
+        held.push((name, bytes.to_vec(alloc)?))?;
+    }
+    Ok(held)
 }
 
 /// A shelf that holds these files. The pulls in the list fail.
-fn shelf(alloc: Global, files: &[(&str, &[u8])], pulls: &[u64]) -> Result<MemoryShelf, AllocError> {
-    let mut held = Vec::new(alloc);
-    for (name, bytes) in files {
-        held.push((String::from_str(alloc, name)?, bytes.to_vec(alloc)?))?;
+fn shelf(rt: &impl Abort, alloc: Global, files: &[(&str, &[u8])], pulls: &[u64]) -> MemoryShelf {
+    let held = sure(rt, held(alloc, files));
+    MemoryShelf::new(held, sure(rt, pulls.to_vec(alloc)))
+}
+
+fn told_by(rt: &impl Abort, alloc: Global, status: u8, out: &MemorySink, err: &MemorySink) -> Told {
+    Told {
+        status,
+        out: sure(rt, out.taken().to_vec(alloc)),
+        err: sure(rt, err.taken().to_vec(alloc)),
     }
-    Ok(MemoryShelf::new(held, pulls.to_vec(alloc)?))
 }
 
 /// Runs the words alone over these files. The calls of the shelf, of the output and of the error stream in the lists fail.
 pub fn run_failing(
+    rt: &impl Abort,
     alloc: Global,
-    words: &[&str],
+    words: &str,
     files: &[(&str, &[u8])],
-    pulls: &[u64],
-    pushes: &[u64],
-    lines: &[u64],
-) -> Result<Told, AllocError> {
-    let mut shelf = shelf(alloc, files, pulls)?;
-    let mut out = sink(alloc, pushes)?;
-    let mut err = sink(alloc, lines)?;
-    let words = words_of(alloc, words)?;
+    failing: (&[u64], &[u64], &[u64]),
+) -> Told {
+    let mut shelf = shelf(rt, alloc, files, failing.0);
+    let (mut out, mut err) = (sink(rt, alloc, failing.1), sink(rt, alloc, failing.2));
+    let words = sure(rt, words_of(alloc, words));
     let status = run_alone(alloc, words.as_slice(), &mut shelf, &mut out, &mut err);
-    Ok(Told {
-        status,
-        out: out.taken().to_vec(alloc)?,
-        err: err.taken().to_vec(alloc)?,
-    })
+    told_by(rt, alloc, status, &out, &err)
 }
 
-/// The same with an error stream that takes every line.
-pub fn run_over(
-    alloc: Global,
-    words: &[&str],
-    files: &[(&str, &[u8])],
-    pulls: &[u64],
-    pushes: &[u64],
-) -> Result<Told, AllocError> {
-    run_failing(alloc, words, files, pulls, pushes, &[])
+/// Runs the words alone over these files.
+pub fn run_over(rt: &impl Abort, alloc: Global, words: &str, files: &[(&str, &[u8])]) -> Told {
+    run_failing(rt, alloc, words, files, (&[], &[], &[]))
+}
+
+/// Runs the words alone over one file, `f`.
+pub fn run_on(rt: &impl Abort, alloc: Global, words: &str, file: &[u8]) -> Told {
+    run_over(rt, alloc, words, &[("f", file)])
 }
 
 /// Runs the words over one file, `f`, with workers that pass the gate.
-pub fn run_crew<R: Threads + Wait + Sync, G: Gate + Sync>(
+pub fn run_crew<R: Threads + Wait + Sync + Abort, G: Gate + Sync>(
     rt: &R,
     alloc: Global,
-    words: &[&str],
+    words: &str,
     file: &[u8],
     gate: &G,
-) -> Result<Told, AllocError> {
-    let mut shelf = shelf(alloc, &[("f", file)], &[])?;
-    let mut out = sink(alloc, &[])?;
-    let mut err = sink(alloc, &[])?;
-    let words = words_of(alloc, words)?;
+) -> Told {
+    let mut shelf = shelf(rt, alloc, &[("f", file)], &[]);
+    let (mut out, mut err) = (sink(rt, alloc, &[]), sink(rt, alloc, &[]));
+    let words = sure(rt, words_of(alloc, words));
     let status = run(
         rt,
         alloc,
@@ -90,49 +112,40 @@ pub fn run_crew<R: Threads + Wait + Sync, G: Gate + Sync>(
         &mut err,
         gate,
     );
-    Ok(Told {
-        status,
-        out: out.taken().to_vec(alloc)?,
-        err: err.taken().to_vec(alloc)?,
-    })
+    told_by(rt, alloc, status, &out, &err)
 }
 
-/// Runs the words alone over one file, `f`.
-pub fn run_on(
+/// Runs the words over one file, `f`, with workers that nothing holds.
+pub fn run_open<R: Threads + Wait + Sync + Abort>(
+    rt: &R,
     alloc: Global,
-    words: &[&str],
-    file: &[u8],
-    pulls: &[u64],
-    pushes: &[u64],
-) -> Result<Told, AllocError> {
-    run_over(alloc, words, &[("f", file)], pulls, pushes)
+    words: &str,
+    file: &str,
+) -> Told {
+    run_crew(rt, alloc, words, file.as_bytes(), &OpenGate)
 }
 
 /// Whether a run of these words over the file ends so.
 pub fn ends(
+    rt: &impl Abort,
     alloc: Global,
-    words: &[&str],
+    words: &str,
     file: &str,
     status: u8,
     out: &str,
     err: &str,
-) -> Result<bool, AllocError> {
-    let told = run_on(alloc, words, file.as_bytes(), &[], &[])?;
-    Ok(
-        told.status == status
-            && told.out.as_slice() == out.as_bytes()
-            && told.err.as_slice() == err.as_bytes(),
-    )
+) -> bool {
+    run_on(rt, alloc, words, file.as_bytes()).is(status, out, err)
 }
 
 /// Whether a run of these words over the file ends with this status, and its output begins so.
 pub fn begins(
+    rt: &impl Abort,
     alloc: Global,
-    words: &[&str],
+    words: &str,
     file: &str,
     status: u8,
     beginning: &str,
-) -> Result<bool, AllocError> {
-    let told = run_on(alloc, words, file.as_bytes(), &[], &[])?;
-    Ok(told.status == status && told.out.as_slice().starts_with(beginning.as_bytes()))
+) -> bool {
+    run_on(rt, alloc, words, file.as_bytes()).begins(status, beginning)
 }

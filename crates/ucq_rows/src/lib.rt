@@ -4,6 +4,8 @@
 #[cfg(test)]
 mod answers;
 #[cfg(test)]
+mod asserts;
+#[cfg(test)]
 mod budgets;
 #[cfg(test)]
 mod failing;
@@ -14,8 +16,12 @@ mod gates;
 #[cfg(test)]
 mod harness;
 #[cfg(test)]
+mod printed;
+#[cfg(test)]
 mod rewritings;
 #[cfg(test)]
 mod university;
+#[cfg(test)]
+mod wide;
 #[cfg(test)]
 mod workers;

@@ -1,7 +1,9 @@
 //! Unions and cuts.
-use crate::harness::{begins, ends};
+use crate::asserts::{equal, sure};
+use crate::harness::ends;
 use crate::university::{UNION, UNIVERSITY};
-use std::test::Fail;
+use std::alloc::Global;
+use std::process::Abort;
 
 /// Files, how many queries their unions have, and the lines of these. The unions were worked out by hand.
 const UNIONS: [(&str, &str); 16] = [
@@ -59,92 +61,26 @@ const UNIONS: [(&str, &str); 16] = [
     ),
 ];
 
-#[test]
-fn a_query_is_rewritten_to_its_exact_union(rt: HostRuntime) -> Result<(), Fail> {
-    for (file, union) in UNIONS {
-        let out = format!(in rt.alloc(); "% finished\n% queries {union}")?;
-        assert!(rt;
-            ends(rt.alloc(), &["f"], file, 0, out.as_str(), "")?,
-            "{file}"
+/// Asserts of each file that its run finishes with this union.
+fn assert_unions(rt: &impl Abort, alloc: Global, rows: &[(&str, &str)]) {
+    for (file, union) in rows {
+        let out = sure(rt, format!(in alloc; "% finished\n% queries {union}"));
+        equal(
+            rt,
+            ends(rt, alloc, "f", file, 0, out.as_str(), ""),
+            true,
+            file,
         );
     }
-    Ok(())
 }
 
 #[test]
-fn the_university_has_ten_queries(rt: HostRuntime) -> Result<(), Fail> {
-    let out = format!(in rt.alloc(); "% finished\n% queries {UNION}")?;
-    assert!(rt; ends(rt.alloc(), &["f"], UNIVERSITY, 0, out.as_str(), "")?);
+fn a_query_is_rewritten_to_its_exact_union(rt: HostRuntime) {
+    assert_unions(&rt, rt.alloc(), &UNIONS);
+}
+
+#[test]
+fn the_university_has_ten_queries(rt: HostRuntime) {
     let unended = UNIVERSITY.trim_end_matches('\n');
-    assert!(rt; ends(rt.alloc(), &["f"], unended, 0, out.as_str(), "")?);
-    Ok(())
-}
-
-#[test]
-fn a_small_budget_cuts_and_leaves_a_core(rt: HostRuntime) -> Result<(), Fail> {
-    let alloc = rt.alloc();
-    let paths =
-        "% cut rows 3\n? :- p(a,b).\n? :- p(a,X0), p(X0,b).\n? :- p(a,X0), p(X0,X1), p(X1,b).\n% left ? :- p(a,X0), p(X0,X1), p(X1,X2), p(X2,b).\n";
-    assert!(rt;
-        ends(
-            alloc,
-            &["--budget", "3", "f"],
-            "p(X,Z) :- p(X,Y), p(Y,Z). ? :- p(a,b).",
-            5,
-            paths,
-            ""
-        )?
-    );
-    let one = "% cut rows 1\n?(X0) :- q(X0).\n% left ?(X0) :- p(X0).\n";
-    assert!(rt;
-        ends(
-            alloc,
-            &["--budget", "1", "f"],
-            "q(X) :- p(X).\n?(X) :- q(X).\n",
-            5,
-            one,
-            ""
-        )?
-    );
-    let core = "% finished\n% queries 1\n? :- p(X0,X1).\n";
-    assert!(rt;
-        ends(
-            alloc,
-            &["--budget", "1", "f"],
-            "? :- p(X,Y), p(Z,W).",
-            0,
-            core,
-            ""
-        )?
-    );
-    Ok(())
-}
-
-/// A rule whose body has 32 atoms, and a query of so many atoms that it rewrites.
-fn wide(rt: &HostRuntime, query: &str) -> Result<String, Fail> {
-    let mut file = String::from_str(rt.alloc(), "p(X) :- q1(X,Y1)")?;
-    for i in 2..33u32 {
-        write!(file, ", q{i}(X,Y{i})")?;
-    }
-    write!(file, ".\n? :- {query}.\n")?;
-    Ok(file)
-}
-
-#[test]
-fn a_rewriting_of_more_than_128_atoms_cuts(rt: HostRuntime) -> Result<(), Fail> {
-    let alloc = rt.alloc();
-    let four = wide(&rt, "p(a), p(b), p(c), p(d)")?;
-    assert!(rt;
-        begins(
-            alloc,
-            &["f"],
-            four.as_str(),
-            0,
-            "% finished\n% queries 16\n"
-        )?
-    );
-    let five = wide(&rt, "p(a), p(b), p(c), p(d), p(e)")?;
-    let cut = "% cut wide row 0 rule 0\n? :- p(a), p(b), p(c), p(d), p(e).\n";
-    assert!(rt; ends(alloc, &["f"], five.as_str(), 5, cut, "")?);
-    Ok(())
+    assert_unions(&rt, rt.alloc(), &[(UNIVERSITY, UNION), (unended, UNION)]);
 }

@@ -1,16 +1,16 @@
 //! Several workers: they are at work at the same time, and their union is that of one worker.
-ghost use Rattle.std.specs.Prelude.{◌≤◌, ◌^◌, length};
+ghost use Rattle.std.specs.Prelude.{◌<◌, ◌≤◌, ◌^◌, length};
 
+use crate::asserts::{equal, holds, sure};
 use crate::gates::HoldingGate;
-use crate::harness::{Told, run_crew};
+use crate::harness::{Told, run_crew, run_open};
 use crate::university::UNIVERSITY;
-use std::alloc::Global;
+use std::alloc::{AllocError, Global};
 use std::process::Abort;
 use std::sync::Wait;
-use std::test::Fail;
 use std::thread::Threads;
 use ucq_hom::{HomSpace, covers};
-use ucq_outside::OpenGate;
+use ucq_outside::{Gate, OpenGate};
 use ucq_pool::{alone, rounds, rounds_noted};
 use ucq_reader::{Input, ReadFault, read_files};
 use ucq_store::{RowState, Store};
@@ -33,9 +33,9 @@ fn read_one(alloc: Global, text: &[u8]) -> Result<Input, ReadFault>
 }
 
 /// The problem of a file.
-fn problem_of(rt: &impl Abort, alloc: Global, text: &[u8]) -> Result<Problem, Fail> {
+fn problem_of(rt: &impl Abort, alloc: Global, text: &str) -> Problem {
     assert!(rt; text.len() <= 1 << 20);
-    match read_one(alloc, text) {
+    match read_one(alloc, text.as_bytes()) {
         Ok(
             Input {
                 names: _,
@@ -45,7 +45,7 @@ fn problem_of(rt: &impl Abort, alloc: Global, text: &[u8]) -> Result<Problem, Fa
             },
         ) => {
             assert!(rt; rules.len() <= 4_096);
-            Ok(Problem::new(rules, query))
+            Problem::new(rules, query)
         }
         Err(_) => panic!(rt; "refused"),
     }
@@ -63,7 +63,7 @@ fn is_among(space: &mut HomSpace, query: &Query, union: &Union) -> bool {
 }
 
 /// Whether two unions of cores are equal up to the names of variables and the order of atoms and queries.
-fn are_equal(space: &mut HomSpace, one: &Union, other: &Union) -> bool {
+pub(crate) fn are_equal(space: &mut HomSpace, one: &Union, other: &Union) -> bool {
     if one.len() != other.len() {
         return false;
     }
@@ -76,57 +76,76 @@ fn are_equal(space: &mut HomSpace, one: &Union, other: &Union) -> bool {
 }
 
 /// The union of a finished store.
-fn union_of(rt: &impl Abort, store: Store) -> Result<Union, Fail> {
+fn union_of(rt: &impl Abort, store: Store) -> Union {
     assert!(rt; store.is_finished());
-    Ok(store.into_union())
+    store.into_union()
 }
 
-/// Whether the union that two workers find through the gate is that of one worker.
-fn agree_through<R: Threads + Wait + Sync + Abort>(
+/// The union that one worker finds.
+fn single(rt: &impl Abort, alloc: Global, space: &mut HomSpace, problem: &Problem) -> Union {
+    let store = sure(rt, alone(alloc, space, problem, 4_096));
+    union_of(rt, store)
+}
+
+/// Whether the union that so many workers find through the gate is that of one worker, which has so many queries.
+fn agree_through<R: Threads + Wait + Sync + Abort, G: Gate + Sync>(
     rt: &R,
     alloc: Global,
-    text: &[u8],
-    gate: &HoldingGate,
-) -> Result<bool, Fail> {
-    let problem = problem_of(rt, alloc, text)?;
-    let mut space = HomSpace::new(alloc)?;
-    let together = union_of(rt, rounds(rt, alloc, &problem, 4_096, 2, gate)?)?;
-    let single = union_of(rt, alone(alloc, &mut space, &problem, 4_096)?)?;
-    Ok(are_equal(&mut space, &together, &single))
+    text: &str,
+    workers: u32,
+    gate: &G,
+    count: u32,
+) -> bool
+    requires one { 0 < workers }
+    requires few { workers ≤ 64 }
+{
+    let problem = problem_of(rt, alloc, text);
+    let mut space = sure(rt, HomSpace::new(alloc));
+    let store = sure(rt, rounds(rt, alloc, &problem, 4_096, workers, gate));
+    let together = union_of(rt, store);
+    let single = single(rt, alloc, &mut space, &problem);
+    single.len() == count && are_equal(&mut space, &together, &single)
+}
+
+/// The row that is held, and the one that it waits for.
+const ORDERS: [(u32, u32); 2] = [(1, 2), (2, 1)];
+
+/// Asserts that two workers, of which one holds a row till the other one passes with its, find the union of one.
+fn assert_agree<R: Threads + Wait + Sync + Abort>(rt: &R, alloc: Global, orders: &[(u32, u32)]) {
+    for (held, awaited) in orders {
+        let gate = HoldingGate::new(*held, *awaited);
+        holds(rt, agree_through(rt, alloc, PRUNED, 2, &gate, 2));
+        holds(rt, gate.is_passed());
+    }
 }
 
 #[test]
-fn two_workers_are_at_work_at_the_same_time(rt: HostRuntime) -> Result<(), Fail> {
-    for (held, awaited) in [(1, 2), (2, 1)] {
-        let gate = HoldingGate::new(held, awaited);
-        assert!(rt; agree_through(&rt, rt.alloc(), PRUNED.as_bytes(), &gate)?);
-        assert!(rt; gate.is_passed());
+fn two_workers_are_at_work_at_the_same_time(rt: HostRuntime) {
+    assert_agree(&rt, rt.alloc(), &ORDERS);
+}
+
+/// The output for the rows that are pruned.
+const ITS_UNION: &str = "% finished\n% queries 2\n? :- a(X0), b(X0).\n? :- c(X0).\n";
+
+/// Asserts that two workers of the program, of which one holds a row, print the union of one.
+fn assert_held<R: Threads + Wait + Sync + Abort>(rt: &R, alloc: Global, orders: &[(u32, u32)]) {
+    for (held, awaited) in orders {
+        let gate = HoldingGate::new(*held, *awaited);
+        let told = run_crew(rt, alloc, "--workers 2 f", PRUNED.as_bytes(), &gate);
+        holds(rt, gate.is_passed());
+        holds(rt, told.is(0, ITS_UNION, ""));
     }
-    Ok(())
 }
 
 #[test]
-fn the_program_has_two_workers_at_work_at_the_same_time(rt: HostRuntime) -> Result<(), Fail> {
-    for (held, awaited) in [(1, 2), (2, 1)] {
-        let gate = HoldingGate::new(held, awaited);
-        let told = run_crew(
-            &rt,
-            rt.alloc(),
-            &["--workers", "2", "f"],
-            PRUNED.as_bytes(),
-            &gate,
-        )?;
-        let out = "% finished\n% queries 2\n? :- a(X0), b(X0).\n? :- c(X0).\n";
-        assert!(rt; told.status == 0 && told.out.as_slice() == out.as_bytes());
-        assert!(rt; gate.is_passed());
-    }
-    Ok(())
+fn the_program_has_two_workers_at_work_at_the_same_time(rt: HostRuntime) {
+    assert_held(&rt, rt.alloc(), &ORDERS);
 }
 
 /// The name of the predicate of a row of one atom.
-fn name_of(rt: &impl Abort, store: &Store, row: u32) -> Result<u32, Fail> {
+fn name_of(rt: &impl Abort, store: &Store, row: u32) -> u32 {
     assert!(rt; row < store.rows());
-    Ok(store.query_of(row).atoms()[0].name())
+    store.query_of(row).atoms()[0].name()
 }
 
 /// Whether a rule leads from the first predicate, in a body, to the second, in a head.
@@ -134,17 +153,39 @@ fn leads(problem: &Problem, from: u32, to: u32) -> bool {
     problem.rules().iter().any(|rule| rule.body()[0].name() == from && rule.heads()[0].name() == to)
 }
 
+/// Whether each of the names below the count is the predicate of a member.
+fn has_each(union: &Union, count: u32) -> bool {
+    let mut found = 0u32;
+    for name in 0..count {
+        for place in 0..union.len() {
+            if union.query(place).atoms()[0].name() == name {
+                found = found.saturating_add(1);
+            }
+        }
+    }
+    found == count
+}
+
 #[test]
-fn a_held_worker_publishes_after_the_other_one(rt: HostRuntime) -> Result<(), Fail> {
-    let problem = problem_of(&rt, rt.alloc(), FAN.as_bytes())?;
+fn a_held_worker_publishes_after_the_other_one(rt: HostRuntime) {
+    let problem = problem_of(&rt, rt.alloc(), FAN);
     let gate = HoldingGate::new(1, 3);
-    let store = rounds(&rt, rt.alloc(), &problem, 4_096, 2, &gate)?;
-    let second = name_of(&rt, &store, 2)?;
-    let fourth = name_of(&rt, &store, 4)?;
-    assert!(rt; leads(&problem, fourth, second) && store.rows() == 7);
-    assert!(rt; union_of(&rt, store)?.len() == 7);
-    assert!(rt; gate.is_passed());
-    Ok(())
+    let store = sure(&rt, rounds(&rt, rt.alloc(), &problem, 4_096, 2, &gate));
+    holds(&rt, gate.is_passed() && store.rows() == 7);
+    let (second, fourth) = (name_of(&rt, &store, 2), name_of(&rt, &store, 4));
+    holds(&rt, leads(&problem, fourth, second));
+    let union = union_of(&rt, store);
+    holds(&rt, union.len() == 7 && has_each(&union, 7));
+}
+
+/// The lines of a text but the first two, in byte order, in one text.
+fn sorted_lines(alloc: Global, text: &[u8]) -> Result<Vec<u8>, AllocError> {
+    let mut lines = Vec::new(alloc);
+    for line in text.split(|byte| *byte == b'\n').skip(2) {
+        lines.push(line)?;
+    }
+    lines.sort()?;
+    lines.as_slice().concat(alloc)
 }
 
 /// The predicate, of one letter, of a printed query of one atom.
@@ -153,29 +194,28 @@ fn letter_of(told: &Told, line: usize) -> Option<u8> {
     text.get(5).copied()
 }
 
+/// The union of the fan, in byte order.
+const FAN_UNION: &[u8] =
+    b"? :- a(X0).? :- b(X0).? :- c(X0).? :- d(X0).? :- e(X0).? :- f(X0).? :- g(X0).";
+
 #[test]
-fn the_program_prints_the_rows_in_the_order_of_publications(rt: HostRuntime) -> Result<(), Fail> {
+fn the_program_prints_the_rows_in_the_order_of_publications(rt: HostRuntime) {
     let gate = HoldingGate::new(1, 3);
-    let told = run_crew(
-        &rt,
-        rt.alloc(),
-        &["--workers", "2", "f"],
-        FAN.as_bytes(),
-        &gate,
-    )?;
-    assert!(rt; told.status == 0 && gate.is_passed());
+    let told = run_crew(&rt, rt.alloc(), "--workers 2 f", FAN.as_bytes(), &gate);
+    holds(&rt, told.status == 0 && gate.is_passed());
     let third = letter_of(&told, 4).unwrap_or(0);
     let fifth = letter_of(&told, 6).unwrap_or(0);
-    assert!(rt; b'b' <= third && third <= b'd' && fifth == third + 3);
-    Ok(())
+    holds(&rt, b'b' <= third && third <= b'd' && fifth == third + 3);
+    let lines = sure(&rt, sorted_lines(rt.alloc(), told.out.as_slice()));
+    holds(&rt, lines.as_slice() == FAN_UNION);
 }
 
 #[test]
-fn the_caller_claims_all_rows_of_a_level(rt: HostRuntime) -> Result<(), Fail> {
-    let problem = problem_of(&rt, rt.alloc(), FAN.as_bytes())?;
-    let store = rounds(&rt, rt.alloc(), &problem, 4, 2, &OpenGate)?;
-    assert!(rt; store.cut().is_some() && store.rows() == 4 && store.claims() == 4);
-    Ok(())
+fn the_caller_claims_all_rows_of_a_level(rt: HostRuntime) {
+    let problem = problem_of(&rt, rt.alloc(), FAN);
+    let store = sure(&rt, rounds(&rt, rt.alloc(), &problem, 4, 2, &OpenGate));
+    holds(&rt, store.cut().is_some());
+    equal(&rt, (store.rows(), store.claims()), (4, 4), "rows, claims");
 }
 
 /// How many rows are explored.
@@ -190,48 +230,28 @@ fn explored(store: &Store) -> u64 {
 }
 
 #[test]
-fn each_drawn_row_is_explored_and_covered_cores_are_seen(rt: HostRuntime) -> Result<(), Fail> {
-    let problem = problem_of(&rt, rt.alloc(), UNIVERSITY.as_bytes())?;
-    let (store, note) = rounds_noted(&rt, rt.alloc(), &problem, 4_096, 2, &OpenGate)?;
-    assert!(rt; store.is_finished() && note.drawn == explored(&store));
-    assert!(rt; note.seen >= 1);
-    Ok(())
-}
-
-#[test]
-fn eight_workers_find_the_union_of_one(rt: HostRuntime) -> Result<(), Fail> {
-    let alloc = rt.alloc();
-    let problem = problem_of(&rt, alloc, UNIVERSITY.as_bytes())?;
-    let mut space = HomSpace::new(alloc)?;
-    let together = union_of(&rt, rounds(&rt, alloc, &problem, 4_096, 8, &OpenGate)?)?;
-    let single = union_of(&rt, alone(alloc, &mut space, &problem, 4_096)?)?;
-    assert!(rt; single.len() == 10 && are_equal(&mut space, &together, &single));
-    Ok(())
-}
-
-#[test]
-fn eight_workers_print_the_answers_of_one(rt: HostRuntime) -> Result<(), Fail> {
-    let words = ["--workers", "8", "--answers", "f"];
-    let told = run_crew(&rt, rt.alloc(), &words, UNIVERSITY.as_bytes(), &OpenGate)?;
-    assert!(rt; told.status == 0);
-    assert!(rt; told.out.starts_with(b"% finished\n% queries 10\n?"));
-    assert!(rt;
-        told.out
-            .ends_with(b".\n% answers 3\n% (ann)\n% (bob)\n% (cat)\n")
-    );
-    Ok(())
-}
-
-#[test]
-fn eight_workers_make_the_counts_of_one(rt: HostRuntime) -> Result<(), Fail> {
-    let told = run_crew(
+fn each_drawn_row_is_explored_and_covered_cores_are_seen(rt: HostRuntime) {
+    let problem = problem_of(&rt, rt.alloc(), UNIVERSITY);
+    let (store, note) = sure(
         &rt,
-        rt.alloc(),
-        &["--workers", "8", "--make", "200"],
-        b"",
-        &OpenGate,
-    )?;
-    let out = "% finished\n% queries 202\n% atoms 403\n% answers 202\n";
-    assert!(rt; told.status == 0 && told.out.as_slice() == out.as_bytes());
-    Ok(())
+        rounds_noted(&rt, rt.alloc(), &problem, 4_096, 2, &OpenGate),
+    );
+    holds(&rt, store.is_finished());
+    equal(&rt, note.drawn, explored(&store), "drawn");
+    holds(&rt, note.seen >= 1);
+}
+
+#[test]
+fn eight_workers_find_the_union_of_one(rt: HostRuntime) {
+    holds(
+        &rt,
+        agree_through(&rt, rt.alloc(), UNIVERSITY, 8, &OpenGate, 10),
+    );
+}
+
+#[test]
+fn eight_workers_make_the_counts_of_one(rt: HostRuntime) {
+    let told = run_open(&rt, rt.alloc(), "--workers 8 --make 200", "");
+    let counts = "% finished\n% queries 202\n% atoms 403\n% answers 202\n";
+    holds(&rt, told.is(0, counts, ""));
 }
