@@ -16,10 +16,10 @@ use Rattle.std.proofs.lemmas.List.Sorted.{Contains-permutation, IsPermutation-ma
 use Rattle.std.proofs.lemmas.Map.Keys.{IsDistinct-cons, IsDistinct-head, IsDistinct-tail, IsDistinct-IsPermutation}
 use Rattle.std.proofs.lemmas.Map.Lookups.{exact_bytes}
 use Rattle.std.proofs.lemmas.Map.Made.{IsDistinct-from_AllPairs}
-use Rattle.ucq_terms.proofs.Lists.{first_element}
+use Rattle.ucq_terms.proofs.Lists.{All-from_contains, first_element}
 use Rattle.ucq_eval.specs.declared.order.Printed.{Printed}
 use Rattle.ucq_eval.specs.Tuples.{tuple_cmp, tuple_text}
-use Rattle.ucq_eval.specs.Order.{AreInOrder, ArePrinted}
+use Rattle.ucq_eval.specs.Order.{AreInOrder, ArePrinted, HaveTexts, tuples_beside}
 
 abbrev pub names_of : Printed → List ℕ
 names_of p = p.names.items
@@ -101,17 +101,21 @@ same_tuples names tuples before after printed permuted tuple =
       λ h. Contains-permutation (map names_of before) (map names_of after) tuple mapped (subst (λ (all : List (List ℕ)). Contains all tuple) (sym printed.names_are) h),
     )
 
+-- a tuple of a permutation has its text too
+text_of :
+    (names : List (List ℕ)) (tuples : List (List ℕ)) (before after : List Printed) → ArePrinted names tuples before → IsPermutation before after →
+    (p : Printed) → Contains after p → p.text.items ≡ tuple_text names p.names.items
+text_of names tuples before after printed permuted p h =
+    All-contains (λ (p : Printed). p.text.items ≡ tuple_text names p.names.items) before p printed.texts_are (Contains-permutation after before p (IsPermutation-sym before after permuted) h)
+
 pub tuples_sorted : (names : List (List ℕ)) (tuples : List (List ℕ)) (before after : List Printed) → ArePrinted names tuples before → AllPairs (λ a b. a ≢ b) tuples → IsPermutation before after → IsSorted printed_cmp after → IsStrictlySortedBy (tuple_cmp names) (map names_of after)
 tuples_sorted names tuples before after printed different permuted sorted =
     strictly_from_sorted (tuple_cmp_total names) (map names_of after) (sorted_mapped (tuple_cmp names) names_of after agree sorted) apart
   where
-    text_of : (p : Printed) → Contains after p → p.text.items ≡ tuple_text names p.names.items
-    text_of p h = All-contains (λ (p : Printed). p.text.items ≡ tuple_text names p.names.items) before p printed.texts_are (Contains-permutation after before p (IsPermutation-sym before after permuted) h)
-
     agree : (p q : Printed) → Contains after p → Contains after q → tuple_cmp names (names_of p) (names_of q) ≡ printed_cmp p q
     agree p q h k =
-        ap (λ (text : List ℕ). ordering_then (slice_cmp nat_cmp text (tuple_text names q.names.items)) (slice_cmp nat_cmp p.names.items q.names.items)) (sym (text_of p h))
-        ∙ ap (λ (text : List ℕ). ordering_then (slice_cmp nat_cmp p.text.items text) (slice_cmp nat_cmp p.names.items q.names.items)) (sym (text_of q k))
+        ap (λ (text : List ℕ). ordering_then (slice_cmp nat_cmp text (tuple_text names q.names.items)) (slice_cmp nat_cmp p.names.items q.names.items)) (sym (text_of names tuples before after printed permuted p h))
+        ∙ ap (λ (text : List ℕ). ordering_then (slice_cmp nat_cmp p.text.items text) (slice_cmp nat_cmp p.names.items q.names.items)) (sym (text_of names tuples before after printed permuted q k))
 
     distinct : IsDistinct (eq_by_cmp (tuple_cmp names)) tuples
     distinct = IsDistinct-from_AllPairs (tuples_tie names) tuples different
@@ -119,9 +123,16 @@ tuples_sorted names tuples before after printed different permuted sorted =
     apart : IsDistinct (eq_by_cmp (tuple_cmp names)) (map names_of after)
     apart = IsDistinct-IsPermutation (eq_by_cmp (tuple_cmp names)) (eq_by_cmp_equiv (tuple_cmp_total names)).symm (map names_of before) (map names_of after) (IsPermutation-map names_of before after permuted) (subst (λ (all : List (List ℕ)). IsDistinct (eq_by_cmp (tuple_cmp names)) all) (sym printed.names_are) distinct)
 
--- the two together
-pub ordered : (names : List (List ℕ)) (found tuples : List (List ℕ)) (before after : List Printed) → ArePrinted names found before → AllPairs (λ a b. a ≢ b) found → IsPermutation before after → IsSorted printed_cmp after → tuples ≡ map names_of after → AreInOrder names found tuples
-ordered names found tuples before after printed different permuted sorted e = record {
-  same = λ tuple. subst (λ (all : List (List ℕ)). Contains all tuple ↔ Contains found tuple) (sym e) (same_tuples names found before after printed permuted tuple);
-  order = subst (λ (all : List (List ℕ)). IsStrictlySortedBy (tuple_cmp names) all) (sym e) (tuples_sorted names found before after printed different permuted sorted);
+pub have_texts : (names : List (List ℕ)) (tuples : List (List ℕ)) (before after : List Printed) → ArePrinted names tuples before → IsPermutation before after → HaveTexts names after
+have_texts names tuples before after printed permuted = record {
+  each = All-from_contains (λ (p : Printed). p.text.items ≡ tuple_text names p.names.items) after (text_of names tuples before after printed permuted);
+}
+
+-- the tuples found, beside their texts and sorted
+pub ordered :
+    (names : List (List ℕ)) (found : List (List ℕ)) (before after : List Printed) → ArePrinted names found before → AllPairs (λ a b. a ≢ b) found →
+    IsPermutation before after → IsSorted printed_cmp after → AreInOrder names found (tuples_beside after)
+ordered names found before after printed different permuted sorted = record {
+  same = same_tuples names found before after printed permuted;
+  order = tuples_sorted names found before after printed different permuted sorted;
 }

@@ -23,3 +23,8 @@ pub record AreAnswers (names : List (List ℕ)) (union : List Query) (facts : Li
 -- these tuples, in some order
 pub record AreFound (union : List Query) (facts : List Atom) (tuples : List (List ℕ)) : Type 0 where
   pub each : (tuple : List ℕ) → Contains tuples tuple ↔ IsAnswer union facts tuple
+
+-- names, and the tuples that are printed with them
+pub record AnswersValue : Type 0 where
+  pub names : List (List ℕ)
+  pub tuples : List (List ℕ)

@@ -1,9 +1,10 @@
 //! The answers of a union.
-ghost use Rattle.std.specs.Prelude.{map, IfOk};
+ghost use Rattle.std.specs.Prelude.{◌≡◌, map, IfOk};
 ghost use Rattle.ucq_eval.specs.Answers.{AreAnswers, AreFound};
 
 use crate::join::collect;
 use crate::order::in_order;
+use crate::printed::Answers;
 use crate::texts::Tuple;
 use indexmap::IndexSet;
 use std::alloc::Global;
@@ -23,11 +24,26 @@ fn found_of(alloc: Global, union: &Union, facts: &Facts) -> Result<IndexSet<Vec<
     Ok(found)
 }
 
-/// The answers of a union over facts: every tuple of constants with which some member maps into the facts, each once, in
-/// byte order of their texts. Unknown values of the facts stand in no tuple.
+/// The answers of a union over facts, each with its text: every tuple of constants with which some member maps into the
+/// facts, each once, in byte order of their texts. Unknown values of the facts stand in no tuple.
 ///
 /// Each member is joined atom by atom, next always the atom with the fewest facts by the index. What is held besides the
 /// facts are the tuples and their texts. The only error is want of memory.
+pub fn answers_with_texts<'n>(
+    alloc: Global,
+    union: &Union,
+    names: &'n Names,
+    facts: &Facts,
+) -> Result<Answers<'n>, NoMemory>
+    ensures names { IfOk result (λ answers. answers.names ≡ names.now) }
+    ensures answers { IfOk result (λ answers. AreAnswers names.now union.now facts.now answers.tuples) }
+{
+    let found = found_of(alloc, union, facts)?;
+    let all = in_order(alloc, names, found)?;
+    Ok(Answers::of(names, all))
+}
+
+/// The same without their texts.
 pub fn answers(
     alloc: Global,
     union: &Union,
@@ -36,6 +52,5 @@ pub fn answers(
 ) -> Result<Vec<Tuple>, NoMemory>
     ensures { IfOk result (λ tuples. AreAnswers names.now union.now facts.now tuples.items) }
 {
-    let found = found_of(alloc, union, facts)?;
-    in_order(alloc, names, found)
+    answers_with_texts(alloc, union, names, facts)?.into_tuples(alloc)
 }

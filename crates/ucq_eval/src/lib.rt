@@ -7,9 +7,11 @@ mod evaluation;
 mod join;
 pub mod laws;
 mod order;
+mod printed;
 mod split;
 mod texts;
 
-pub use evaluation::answers;
-pub use split::answers_split;
+pub use evaluation::{answers, answers_with_texts};
+pub use printed::Answers;
+pub use split::{answers_split, answers_with_texts_split};
 pub use texts::{Tuple, tuple_text};

@@ -1,8 +1,8 @@
 //! Tuples in the order in which they are printed.
 ghost use Rattle.std.specs.Prelude.{◌≡◌, ◌≢◌, AllPairs, map, IfOk};
-ghost use Rattle.ucq_eval.specs.Order.{AreInOrder, ArePrinted, IsPrinted};
+ghost use Rattle.ucq_eval.specs.Order.{AreInOrder, ArePrinted, HaveTexts, IsPrinted, tuples_beside};
 
-use crate::texts::{Tuple, numbers_text};
+use crate::texts::numbers_text;
 use indexmap::IndexSet;
 use rayon::prelude::*;
 use std::alloc::Global;
@@ -11,9 +11,9 @@ use ucq_terms::{Names, NoMemory};
 
 /// A tuple with its text, which stands first and so decides the order.
 #[derive(PartialEq, Eq, PartialOrd, Ord, Drop)]
-struct Printed {
-    text: Vec<u8>,
-    names: Vec<u32>,
+pub(crate) struct Printed {
+    pub(crate) text: Vec<u8>,
+    pub(crate) names: Vec<u32>,
 }
 
 /// No two of the tuples are equal.
@@ -69,29 +69,19 @@ fn with_texts_split<R: Threads + Sync>(
         .collect::<Result<Vec<Printed>, NoMemory>>(rt, alloc)?
 }
 
-/// The tuples without their texts.
-fn tuples_of(alloc: Global, all: Vec<Printed>) -> Result<Vec<Tuple>, NoMemory>
-    ensures { IfOk result (λ tuples. tuples.items ≡ map (λ p. p.names.items) all.items) }
-{
-    let mut tuples = Vec::with_capacity(alloc, all.len())?;
-    for tuple in all {
-        tuples.push(Tuple::new(tuple.names))?;
-    }
-    Ok(tuples)
-}
-
-/// The tuples in byte order of their texts. Each text is made once. The only error is want of memory.
+/// The tuples with their texts, in byte order of these. Each text is made once. The only error is want of memory.
 pub(crate) fn in_order(
     alloc: Global,
     names: &Names,
     found: IndexSet<Vec<u32>>,
-) -> Result<Vec<Tuple>, NoMemory>
-    ensures { IfOk result (λ tuples. AreInOrder names.now (map (λ t. t.items) found.keys) tuples.items) }
+) -> Result<Vec<Printed>, NoMemory>
+    ensures order { IfOk result (λ all. AreInOrder names.now (map (λ t. t.items) found.keys) (tuples_beside all.items)) }
+    ensures texts { IfOk result (λ all. HaveTexts names.now all.items) }
 {
     differ(&found);
     let mut all = with_texts(alloc, names, found)?;
     all.sort_unstable();
-    tuples_of(alloc, all)
+    Ok(all)
 }
 
 /// The same by several threads, where there are many tuples.
@@ -100,11 +90,12 @@ pub(crate) fn in_order_split<R: Threads + Sync>(
     alloc: Global,
     names: &Names,
     found: IndexSet<Vec<u32>>,
-) -> Result<Vec<Tuple>, NoMemory>
-    ensures { IfOk result (λ tuples. AreInOrder names.now (map (λ t. t.items) found.keys) tuples.items) }
+) -> Result<Vec<Printed>, NoMemory>
+    ensures order { IfOk result (λ all. AreInOrder names.now (map (λ t. t.items) found.keys) (tuples_beside all.items)) }
+    ensures texts { IfOk result (λ all. HaveTexts names.now all.items) }
 {
     differ(&found);
     let mut all = with_texts_split(rt, alloc, names, found)?;
     par_sort_unstable(rt, all.as_mut_slice());
-    tuples_of(alloc, all)
+    Ok(all)
 }

@@ -6,6 +6,7 @@ ghost use Rattle.ucq_eval.specs.Split.{Follows, IsOf, IsMerged};
 
 use crate::join::collect;
 use crate::order::in_order_split;
+use crate::printed::Answers;
 use crate::texts::Tuple;
 use indexmap::IndexSet;
 use rayon::prelude::*;
@@ -125,7 +126,23 @@ fn found_by_threads<R: Threads + Sync>(
         )
 }
 
-/// The same as `answers`, by several threads, each of which joins a part of the members and of the tuples.
+/// The same as `answers_with_texts`, by several threads, each of which joins a part of the members and of the tuples.
+pub fn answers_with_texts_split<'n, R: Threads + Sync>(
+    rt: &R,
+    alloc: Global,
+    union: &Union,
+    names: &'n Names,
+    facts: &Facts,
+) -> Result<Answers<'n>, NoMemory>
+    ensures names { IfOk result (λ answers. answers.names ≡ names.now) }
+    ensures answers { IfOk result (λ answers. AreAnswers names.now union.now facts.now answers.tuples) }
+{
+    let found = found_by_threads(rt, alloc, union, facts)?;
+    let all = in_order_split(rt, alloc, names, found)?;
+    Ok(Answers::of(names, all))
+}
+
+/// The same without their texts.
 pub fn answers_split<R: Threads + Sync>(
     rt: &R,
     alloc: Global,
@@ -135,6 +152,5 @@ pub fn answers_split<R: Threads + Sync>(
 ) -> Result<Vec<Tuple>, NoMemory>
     ensures { IfOk result (λ tuples. AreAnswers names.now union.now facts.now tuples.items) }
 {
-    let found = found_by_threads(rt, alloc, union, facts)?;
-    in_order_split(rt, alloc, names, found)
+    answers_with_texts_split(rt, alloc, union, names, facts)?.into_tuples(alloc)
 }
