@@ -1,5 +1,6 @@
 -- The tuples that are added while one atom is sent to facts, one after another.
-use Rattle.std.proofs.Common.{◌≡◌, ℕ, List, [], ◌∷◌, ◌++◌, length, Option, Contains, sym, ◌∙◌, subst, inl, inr}
+use Rattle.std.proofs.Common.{◌≡◌, ℕ, ◌<◌, refl, List, [], ◌∷◌, ◌++◌, length, get_or, Option, Contains, sym, ◌∙◌, subst, inl, inr}
+use Rattle.std.specs.List.{SwappedAt}
 use Rattle.std.proofs.lemmas.List.Elements.{Contains-append_right}
 use Rattle.ucq_terms.specs.declared.Term.{Term}
 use Rattle.ucq_terms.specs.Syntax.{Atom, Query}
@@ -7,12 +8,29 @@ use Rattle.ucq_terms.specs.Unifier.{atom_at}
 use Rattle.ucq_terms.proofs.Lists.{Contains-first}
 use Rattle.ucq_hom.specs.Space.{IsClear}
 use Rattle.ucq_hom.specs.Bindings.{Bound, IsMatched, IsClash}
-use Rattle.ucq_hom.specs.Search.{IsOrder}
+use Rattle.ucq_hom.specs.Search.{ArePlaces, IsOrder}
+use Rattle.ucq_hom.proofs.Ordered.{ArePlaces-at}
 use Rattle.ucq_facts.specs.Facts.{matching}
 use Rattle.ucq_facts.proofs.Matching.{Contains-from_matching}
-use Rattle.ucq_eval.specs.Join.{IsGrownBy, IsCollected, Gives, GivesBy, HasSamePlaces, IsKey}
+use Rattle.ucq_eval.specs.Join.{IsGrownBy, IsCollected, Gives, GivesBy, HasSamePlaces, IsKey, AreTargets, IsChoice}
+use Rattle.ucq_eval.proofs.Places.{read_of}
 use Rattle.ucq_eval.proofs.Grown.{IsGrownBy-nothing, IsGrownBy-same, IsGrownBy-both}
 use Rattle.ucq_eval.proofs.Given.{none_by_no_target, none_by_clash, GivesBy-cases, GivesBy-left, GivesBy-right, GivesBy-same, GivesBy-from_same, GivesBy-matched, Gives-matched, Gives-same, Gives-from_same, Gives-by_matching, matching-given, Gives-maps, MapsInto-given}
+
+-- facts of an atom that was read at one of the places
+pub chosen : (b : Bound) (facts atoms : List Atom) (places : List ℕ) (choice : ℕ) (a : Atom) (targets : List Atom) → choice < length places → ArePlaces atoms places →
+    a ≡ get_or atoms (get_or places choice 0) a → AreTargets b facts a targets → IsChoice b facts atoms places choice targets
+chosen b facts atoms places choice a targets within p is t =
+    let inside : get_or places choice 0 < length atoms = ArePlaces-at atoms places choice within p in
+    let atom : a ≡ atom_at atoms (get_or places choice 0) = read_of atoms atoms (get_or places choice 0) a refl inside is in
+    record { within = within; facts_of = subst (λ (x : Atom). AreTargets b facts x targets) atom t }
+
+-- the facts that were chosen are those of the first place, once it was put there
+pub targets_of_first : (b : Bound) (facts all atoms : List Atom) (places order : List ℕ) (choice : ℕ) (targets : List Atom) → all ≡ atoms → SwappedAt places order 0 choice →
+    IsChoice b facts all places choice targets → AreTargets b facts (atom_at atoms (get_or order 0 0)) targets
+targets_of_first b facts all atoms places order choice targets e s c =
+    subst (λ (xs : List Atom). AreTargets b facts (atom_at xs (get_or order 0 0)) targets) e
+    (subst (λ (place : ℕ). AreTargets b facts (atom_at all place) targets) (sym (s.0 0)) c.facts_of)
 
 -- no target yet
 pub found_none : (b : Bound) (q : Query) (place : ℕ) (rest : List ℕ) (facts : List Atom) (us : List (List ℕ)) → IsGrownBy (GivesBy b q place [] rest facts) us us

@@ -1,10 +1,11 @@
 -- What a join of a query over facts finds, and what its search keeps.
-use Rattle.std.specs.Prelude.{◌≡◌, ℕ, List, map, length, Option, Some, None, IsSome, Contains, ◌⊎◌, ◌↔◌, slice_get}
+use Rattle.std.specs.Prelude.{◌≡◌, ℕ, List, map, length, Option, Some, None, IsSome, Contains, ◌⊎◌, ◌↔◌, ◌<◌, slice_get, slice_index}
 use Rattle.ucq_terms.specs.declared.Term.{Term}
 use Rattle.ucq_terms.specs.declared.Term.TheVariants.{Constant, Variable}
 use Rattle.ucq_terms.specs.Syntax.{Atom, Query, terms_image, atom_image}
 use Rattle.ucq_terms.specs.Homomorphism.{MapsInto}
 use Rattle.ucq_terms.specs.Unifier.{atom_at}
+use Rattle.ucq_facts.specs.Facts.{matching}
 use Rattle.ucq_hom.specs.Space.{image}
 use Rattle.ucq_hom.specs.Bindings.{Bound, Extends}
 use Rattle.ucq_hom.specs.Search.{Sends}
@@ -69,3 +70,14 @@ pub record HasSamePlaces (old new : List ℕ) : Type 0 where
 abbrev pub IsKey : Bound → List Term → Option (ℕ × Term) → Type 0
 IsKey b terms None = Unit {0}
 IsKey b terms (Some key) = (term : Term) × (slice_get terms key.0 ≡ Some term) × (value b term ≡ Some key.1)
+
+-- the facts of the atom's name and number of terms by some key of what is bound
+pub record AreTargets (b : Bound) (facts : List Atom) (a : Atom) (targets : List Atom) : Type 0 where
+  pub key : Option (ℕ × Term)
+  pub keyed : IsKey b a.terms key
+  pub are : targets ≡ matching facts a.name (length a.terms) key
+
+-- where one of the places stands, and such facts of the atom there
+pub record IsChoice (b : Bound) (facts : List Atom) (atoms : List Atom) (places : List ℕ) (choice : ℕ) (targets : List Atom) : Type 0 where
+  pub within : choice < length places
+  pub facts_of : AreTargets b facts (atom_at atoms (slice_index places choice)) targets

@@ -1,12 +1,11 @@
 //! The join of a query's atoms over facts.
 ghost use Rattle.std.specs.Prelude.{◌≡◌, ◌<◌, ◌≤◌, ℕ, ◌∷◌, [], length, map, Contains, IsTrue, ◌↔◌, true, false, OnOk, slice_index};
 ghost use Rattle.ucq_terms.specs.Unifier.{atom_at};
-ghost use Rattle.ucq_facts.specs.Facts.{matching};
 ghost use Rattle.ucq_hom.specs.Search.{ArePlaces};
-ghost use Rattle.ucq_eval.specs.Join.{IsGrownBy, IsCollected, Gives, GivesBy, value as value_of, HasUnknown, IsRead, IsUnread, AreReached, HasSamePlaces, IsKey};
+ghost use Rattle.ucq_eval.specs.Join.{IsGrownBy, IsCollected, Gives, GivesBy, value as value_of, HasUnknown, IsRead, IsUnread, AreReached, HasSamePlaces, AreTargets, IsChoice};
 
 use indexmap::IndexSet;
-use ucq_facts::Facts;
+use ucq_facts::{Facts, Matches};
 use ucq_hom::bindings::Bindings;
 use ucq_hom::matching::match_terms;
 use ucq_terms::{Atom, NoMemory, Query, Term};
@@ -48,52 +47,50 @@ fn read(bindings: &Bindings, terms: &[Term], tuple: &mut [u32]) -> bool
     true
 }
 
-/// How many facts there are of the atom's predicate, with the key's term at the key's place.
-fn count(facts: &Facts, atom: &Atom, key: Option<(u32, Term)>) -> usize
-    ensures { result ≡ length (matching facts.now atom.now.name (length atom.now.terms) key) }
+/// The facts of the atom's predicate with what a term of it is bound to at that term's place: of these lists, and that of
+/// all facts of the predicate, the shortest, or the first that has one fact at most.
+fn targets<'f>(bindings: &Bindings, facts: &'f Facts, atom: &Atom) -> Matches<'f>
+    ensures { AreTargets bindings.now facts.now atom.now result }
 {
-    facts
-        .matching(atom.name(), atom.terms().len() as u32, key)
-        .len()
-}
-
-/// The place of a bound term of the atom by which the fewest facts are found, and what that term is bound to. It is
-/// `None` where no place leaves fewer facts than the predicate has.
-fn best_key(bindings: &Bindings, facts: &Facts, atom: &Atom) -> Option<(u32, Term)>
-    ensures { IsKey bindings.now atom.now.terms result }
-{
-    let mut best = None;
-    let mut fewest = count(facts, atom, None);
-    for place in 0..atom.terms().len() {
-        if let Some(term) = value(bindings, atom.terms()[place]) {
-            let key = Some((place as u32, term));
-            let found = count(facts, atom, key);
-            if found < fewest {
-                best = key;
-                fewest = found;
+    let arity = atom.terms().len() as u32;
+    let mut best = facts.matching(atom.name(), arity, None);
+    for place in 0..arity {
+        if best.len() > 1 {
+            if let Some(term) = value(bindings, atom.terms()[place as usize]) {
+                let found = facts.matching(atom.name(), arity, Some((place, term)));
+                if found.len() < best.len() {
+                    best = found;
+                }
             }
         }
     }
     best
 }
 
-/// Where in the list the place of the atom stands for which the fewest facts are found.
-fn next_atom(bindings: &Bindings, facts: &Facts, atoms: &[Atom], places: &[u32]) -> usize
+/// Where in the list the place of the atom stands that has the fewest such facts, or of which the first is known to have one
+/// at most; and these facts.
+fn next_atom<'f>(
+    bindings: &Bindings,
+    facts: &'f Facts,
+    atoms: &[Atom],
+    places: &[u32],
+) -> (usize, Matches<'f>)
     requires some { 0 < length places.now }
     requires places { ArePlaces atoms.now places.now }
-    ensures { result < length places.now }
+    ensures { IsChoice bindings.now facts.now atoms.now places.now result.0 result.1 }
 {
     let mut best = 0;
-    let mut fewest = usize::MAX;
-    for i in 0..places.len() {
-        let atom = &atoms[places[i] as usize];
-        let found = count(facts, atom, best_key(bindings, facts, atom));
-        if found < fewest {
-            best = i;
-            fewest = found;
+    let mut fewest = targets(bindings, facts, &atoms[places[0] as usize]);
+    for i in 1..places.len() {
+        if fewest.len() > 1 {
+            let found = targets(bindings, facts, &atoms[places[i] as usize]);
+            if found.len() < fewest.len() {
+                best = i;
+                fewest = found;
+            }
         }
     }
-    best
+    (best, fewest)
 }
 
 /// Adds the tuple.
@@ -162,13 +159,11 @@ fn branch(
     ensures places { OnOk result (HasSamePlaces places.old places.new) }
     ensures found { OnOk result (IsGrownBy (Gives bindings.old query.now places.old facts.now) (map (λ t. t.items) found.old.keys) (map (λ t. t.items) found.new.keys)) }
 {
-    let next = next_atom(bindings, facts, query.atoms(), places);
+    let (next, targets) = next_atom(bindings, facts, query.atoms(), places);
     places.swap(0, next);
     let place = places[0];
     let rest = &mut places[1..];
-    let atom = &query.atoms()[place as usize];
-    let key = best_key(bindings, facts, atom);
-    for target in facts.matching(atom.name(), atom.terms().len() as u32, key) {
+    for target in targets {
         visit(bindings, query, facts, place, target, rest, found)?;
     }
     Ok(())

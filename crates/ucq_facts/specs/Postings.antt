@@ -1,7 +1,8 @@
 -- Lists of places by keys.
-use Rattle.std.specs.Prelude.{◌≡◌, ℕ, ◌<◌, Bool, false, List, [], ◌∷◌, ◌++◌, if◌then◌else◌, IsSomeAnd, vec_len, vec_capacity}
+use Rattle.std.specs.Prelude.{◌≡◌, ℕ, Bool, false, List, [], ◌∷◌, ◌++◌, if◌then◌else◌, IsSomeAnd}
 use Rattle.std.specs.Option.{option_map_or}
 use Rattle.indexmap.specs.IndexMap.{get}
+use Rattle.smallvec.specs.SmallVec.{HasRoomFor}
 use Rattle.ucq_facts.specs.declared.postings.Postings.{Postings}
 
 module _ {K : Type 0} (eq : K → K → Bool) where
@@ -11,7 +12,7 @@ module _ {K : Type 0} (eq : K → K → Bool) where
 
   -- one more place fits into the list of the key with no new memory
   abbrev pub HasRoom : Postings K → K → Type 0
-  HasRoom p key = IsSomeAnd (get eq p.lists key) (λ list. vec_len list < vec_capacity list)
+  HasRoom p key = IsSomeAnd (get eq p.lists key) (λ list. HasRoomFor list 1)
 
   -- no key has a place
   pub record AreEmpty (p : Postings K) : Type 0 where

@@ -3,14 +3,15 @@ ghost use Rattle.std.specs.Prelude.{◌≡◌, OnOk};
 ghost use Rattle.ucq_facts.specs.Postings.{list_at, AreEmpty, KeepsLists, HasRoom, IsPushed};
 
 use indexmap::IndexMap;
+use smallvec::SmallVec;
 use std::alloc::Global;
 use std::hash::Hash;
 use ucq_terms::NoMemory;
 
-/// A list of places for each key. A key without an entry has the empty list.
+/// A list of places for each key. A key without an entry has the empty list. Short lists need no memory of their own.
 #[derive(Drop)]
 pub(crate) struct Postings<K: Eq + Hash> {
-    lists: IndexMap<K, Vec<u32>>,
+    lists: IndexMap<K, SmallVec<u32, 4>>,
 }
 
 impl<K: Eq + Hash + Drop> Postings<K> {
@@ -38,12 +39,8 @@ impl<K: Eq + Hash + Drop> Postings<K> {
         ensures lists { KeepsLists K.eq self.old self.new }
         ensures room { OnOk result (HasRoom K.eq self.new key) }
     {
-        if let Some(list) = self.lists.get_mut(&key) {
-            list.reserve(1)?;
-            return Ok(());
-        }
-        let list = Vec::with_capacity(*self.lists.allocator(), 1)?;
-        self.lists.insert(key, list)?;
+        let none = SmallVec::new(*self.lists.allocator());
+        self.lists.entry(key)?.or_insert(none).reserve(1)?;
         Ok(())
     }
 

@@ -11,23 +11,13 @@ use Rattle.ucq_hom.proofs.Found.{ArePlaces-rest, HasLowTerms-at}
 use Rattle.ucq_hom.proofs.Homs.{HasLowAtoms-atoms}
 use Rattle.ucq_hom.proofs.Ordered.{ArePlaces-at}
 use Rattle.ucq_facts.specs.Facts.{matching}
-use Rattle.ucq_eval.specs.Join.{Gives, HasUnknown, IsRead, IsUnread, IsKey, AreReached}
+use Rattle.ucq_eval.specs.Join.{Gives, HasUnknown, IsRead, IsUnread, AreReached}
 use Rattle.ucq_eval.proofs.Grown.{IsGrownBy-nothing, IsGrownBy-same}
 use Rattle.ucq_eval.proofs.Places.{HasSamePlaces-swapped, HasSamePlaces-trans, HasSamePlaces-part, HasSamePlaces-first, ArePlaces-same, read_of, HasSamePlaces-refl, no_places, some_place}
 use Rattle.ucq_eval.proofs.Given.{none_by_unknown, read_alone, Gives-read, place_by_unread, AreReached-same, AreReached-matched}
-use Rattle.ucq_eval.proofs.Branches.{found_none, found_more, found_all, found_matched, name-first}
+use Rattle.ucq_eval.proofs.Branches.{targets_of_first, found_none, found_more, found_all, found_matched, name-first}
 use Rattle.ucq_eval.proofs.join.+join.Goals as goal
 use Rattle.ucq_eval.proofs.join.+join.Goals.{explore-then-read+else-is_found+else-is_empty, explore-else-read}
-
-pub branch-bounds-atoms-place : goal.branch-bounds-atoms-place
-branch-bounds-atoms-place t c =
-    let atoms = c.args.query.now.atoms in
-    let places = c.args.places.now in
-    let order = c.swap.new.self in
-    let some : 0 < length order = let a = c.requires.some in let b = c.swap.ensures.len in omega arith in
-    let same = HasSamePlaces-swapped places order 0 c.next_atom-next.result c.requires.some c.next_atom-next.ensures c.swap.ensures.len c.swap.ensures.by_index in
-    subst (λ (xs : List Atom). get_or order 0 0 < length xs) (sym c.atoms-2.ensures.atoms)
-    (ArePlaces-at atoms order 0 some (ArePlaces-same atoms places order same c.requires.places))
 
 pub branch-visit-requires : goal.branch-visit-requires
 branch-visit-requires t c =
@@ -36,21 +26,20 @@ branch-visit-requires t c =
     let order = c.swap.new.self in
     let place = get_or order 0 0 in
     let rest = c.loop-target.rest in
+    let choice = c.next_atom-next.ensures in
     let some : 0 < length order = let a = c.requires.some in let b = c.swap.ensures.len in omega arith in
-    let swapped = HasSamePlaces-swapped places order 0 c.next_atom-next.result c.requires.some c.next_atom-next.ensures c.swap.ensures.len c.swap.ensures.by_index in
+    let swapped = HasSamePlaces-swapped places order 0 c.next_atom-next.result.0 c.requires.some choice.within c.swap.ensures.len c.swap.ensures.by_index in
     let same = HasSamePlaces-trans places order (place ∷ rest) swapped (HasSamePlaces-first order rest some c.loop-target.invariant.places) in
-    let within : place < length q.atoms = ArePlaces-at q.atoms order 0 some (ArePlaces-same q.atoms places order swapped c.requires.places) in
-    let atom : c.index-atoms-place.result ≡ atom_at q.atoms place =
-    read_of c.atoms-2.result.now q.atoms place c.index-atoms-place.result c.atoms-2.ensures.atoms within c.index-atoms-place.is in
-    let named = name-first c.args.facts.now (map (λ x. x.now) c.loop-target.yielded) c.loop-target.target-iterator c.name.result (length c.terms.result.now) c.best_key-key.result
-    c.into_iter-target-iterator.result c.in-Some.target.now c.next.new.self (c.into_iter-target-iterator.ensures.into_iter_gives ∙ c.matching-target-items.ensures)
+    let targets = targets_of_first c.args.bindings.now c.args.facts.now c.atoms.result.now q.atoms places order c.next_atom-next.result.0 c.next_atom-next.result.1 c.atoms.ensures.atoms c.swap.ensures.by_index choice in
+    let named = name-first c.args.facts.now (map (λ x. x.now) c.loop-target.yielded) c.loop-target.target-iterator (atom_at q.atoms place).name (length (atom_at q.atoms place).terms) targets.key
+    c.into_iter-target-iterator.result c.in-Some.target.now c.next.new.self (c.into_iter-target-iterator.ensures.into_iter_gives ∙ targets.are)
     c.loop-target.invariant.left c.in-Some.ensures.steps in (
       (let size = same.size in let n : length (place ∷ rest) ≡ length places = size in omega arith),
       (
         ArePlaces-same q.atoms places (place ∷ rest) same c.requires.places,
         (
           subst (λ (b : Bound). AreReached b q (place ∷ rest)) (sym c.loop-target.invariant.bindings) (AreReached-same c.args.bindings.now q places (place ∷ rest) same c.requires.reached),
-          ap (λ (a : Atom). a.name) (sym atom) ∙ (sym c.name.ensures ∙ sym named),
+          sym named,
         ),
       ),
     )
@@ -90,7 +79,7 @@ branch-returns-clause-places t c =
     let places = c.args.places.now in
     let order = c.swap.new.self in
     let some : 0 < length order = let a = c.requires.some in let b = c.swap.ensures.len in omega arith in
-    let swapped = HasSamePlaces-swapped places order 0 c.next_atom-next.result c.requires.some c.next_atom-next.ensures c.swap.ensures.len c.swap.ensures.by_index in
+    let swapped = HasSamePlaces-swapped places order 0 c.next_atom-next.result.0 c.requires.some c.next_atom-next.ensures.within c.swap.ensures.len c.swap.ensures.by_index in
     HasSamePlaces-trans places order _ swapped (HasSamePlaces-part order c.loop-target.rest some c.loop-target.invariant.places)
 
 pub branch-returns-clause-found : goal.branch-returns-clause-found
@@ -101,25 +90,18 @@ branch-returns-clause-found t c =
     let order = c.swap.new.self in
     let place = get_or order 0 0 in
     let part = take (length order - 1) (drop 1 order) in
-    let key = c.best_key-key.result in
+    let choice = c.next_atom-next.ensures in
     let some : 0 < length order = let a = c.requires.some in let b = c.swap.ensures.len in omega arith in
-    let swapped = HasSamePlaces-swapped places order 0 c.next_atom-next.result c.requires.some c.next_atom-next.ensures c.swap.ensures.len c.swap.ensures.by_index in
-    let within : place < length q.atoms = ArePlaces-at q.atoms order 0 some (ArePlaces-same q.atoms places order swapped c.requires.places) in
-    let atom : c.index-atoms-place.result ≡ atom_at q.atoms place =
-    read_of c.atoms-2.result.now q.atoms place c.index-atoms-place.result c.atoms-2.ensures.atoms within c.index-atoms-place.is in
-    let name : c.name.result ≡ (atom_at q.atoms place).name = c.name.ensures ∙ ap (λ (a : Atom). a.name) atom in
-    let arity : length c.terms.result.now ≡ length (atom_at q.atoms place).terms = ap length (c.terms.ensures.terms ∙ ap (λ (a : Atom). a.terms) atom) in
+    let swapped = HasSamePlaces-swapped places order 0 c.next_atom-next.result.0 c.requires.some choice.within c.swap.ensures.len c.swap.ensures.by_index in
+    let targets = targets_of_first c.args.bindings.now facts c.atoms.result.now q.atoms places order c.next_atom-next.result.0 c.next_atom-next.result.1 c.atoms.ensures.atoms c.swap.ensures.by_index choice in
     let done = map (λ x. x.now) c.loop-target.yielded in
-    let all : done ≡ matching facts (atom_at q.atoms place).name (length (atom_at q.atoms place).terms) key =
+    let all : done ≡ matching facts (atom_at q.atoms place).name (length (atom_at q.atoms place).terms) targets.key =
     sym (append-nil done) ∙
     (ap (λ (xs : List Atom). done ++ xs) (sym c.in-None.ensures.steps.0) ∙
     (c.loop-target.invariant.left ∙
-    (c.into_iter-target-iterator.ensures.into_iter_gives ∙
-    (c.matching-target-items.ensures ∙ ap₂ (λ n k. matching facts n k key) name arity)))) in
-    let keyed : IsKey c.args.bindings.now (atom_at q.atoms place).terms key =
-    subst (λ (a : Atom). IsKey c.args.bindings.now a.terms key) atom c.best_key-key.ensures in
+    (c.into_iter-target-iterator.ensures.into_iter_gives ∙ targets.are))) in
     let same = HasSamePlaces-trans places order (place ∷ part) swapped (HasSamePlaces-first order part some (HasSamePlaces-refl part)) in
-    found_all c.args.bindings.now q places place part facts done key _ _ all keyed same c.loop-target.invariant.found
+    found_all c.args.bindings.now q places place part facts done targets.key _ _ all targets.keyed same c.loop-target.invariant.found
 
 pub explore-returns-then-has_unknown-clause-found : goal.explore-returns-then-has_unknown-clause-found
 explore-returns-then-has_unknown-clause-found t c =

@@ -1,5 +1,5 @@
-use Rattle.std.proofs.Common.{◌<◌, length}
+use Rattle.ucq_eval.specs.Join.{IsChoice}
 use Rattle.ucq_eval.proofs.join.next_atom.Given as goal
 
 abbrev pub invariant-loop-i : goal.invariant-loop-i
-invariant-loop-i l = l.best < length l.places
+invariant-loop-i l = IsChoice l.bindings l.facts l.atoms l.places l.best l.fewest
