@@ -23,12 +23,6 @@ pieces() { pieces_of 7; }
 # One step with 16 pieces, and so 65,535 cores. The budget ends the run after it.
 step() { pieces_of 16; }
 
-# Paths without end, which a budget of 24 rows cuts.
-paths() {
-    echo "e(X,Z) :- e(X,Y), e(Y,Z)."
-    echo "? :- e(a,b)."
-}
-
 # The rows, live and dead, and the rewritings that were tried are counted by another program, which isn't timed.
 printf '%-8s %7s %8s %7s %9s %10s %10s\n' input status queries rows tried seconds kilobytes
 for name in chain tree pairs roles pieces step paths; do
