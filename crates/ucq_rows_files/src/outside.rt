@@ -1,29 +1,31 @@
 //! Shelves and sinks, in memory and of the system.
+use crate::asserts::{equal, holds, sure};
 use std::alloc::{AllocError, Global};
 use std::fmt::Display;
 use std::io::{ErrorKind, Write};
 use std::os::fd::AsRawFd;
 use std::process::Abort;
-use std::test::Fail;
 use std::{env, fs, io, process};
 use ucq_outside::{
     Failed, FileShelf, MemoryShelf, MemorySink, ROOM, Shelf, Sink, StandardError, StreamSink,
     SureShelf, SureSink,
 };
 
-fn named(alloc: Global, name: &str, text: &str) -> Result<(String, Vec<u8>), AllocError> {
-    Ok((
-        String::from_str(alloc, name)?,
-        text.as_bytes().to_vec(alloc)?,
-    ))
+/// The files of a shelf.
+const THREE_FILES: [(&str, &str); 3] = [("a", "hello"), ("empty", ""), ("a", "second")];
+
+fn owned(alloc: Global, files: &[(&str, &str)]) -> Result<Vec<(String, Vec<u8>)>, AllocError> {
+    let mut all = Vec::new(alloc);
+    for (name, text) in files {
+        let name = String::from_str(alloc, name)?;
+        all.push((name, text.as_bytes().to_vec(alloc)?))?;
+    }
+    Ok(all)
 }
 
-fn three_files(alloc: Global) -> Result<Vec<(String, Vec<u8>)>, AllocError> {
-    let mut files = Vec::new(alloc);
-    files.push(named(alloc, "a", "hello")?)?;
-    files.push(named(alloc, "empty", "")?)?;
-    files.push(named(alloc, "a", "second")?)?;
-    Ok(files)
+/// The three files.
+fn three_files(rt: &impl Abort, alloc: Global) -> Vec<(String, Vec<u8>)> {
+    sure(rt, owned(alloc, &THREE_FILES))
 }
 
 /// What a pull gives, or `failed`.
@@ -47,8 +49,11 @@ fn gives(rt: &impl Abort, shelf: &mut impl Shelf, calls: &[(&str, u64, &str)]) {
 }
 
 #[test]
-fn a_memory_shelf_gives_what_fits_and_fails_where_told(rt: HostRuntime) -> Result<(), Fail> {
-    let mut shelf = MemoryShelf::new(three_files(rt.alloc())?, vec![in rt.alloc(); 2]?);
+fn a_memory_shelf_gives_what_fits_and_fails_where_told(rt: HostRuntime) {
+    let mut shelf = MemoryShelf::new(
+        three_files(&rt, rt.alloc()),
+        sure(&rt, vec![in rt.alloc(); 2]),
+    );
     let calls = [
         ("a", 0, "hello"),
         ("a", 3, "lo"),
@@ -63,12 +68,11 @@ fn a_memory_shelf_gives_what_fits_and_fails_where_told(rt: HostRuntime) -> Resul
     let mut narrow = [0u8; 2];
     assert_eq!(rt; pulled(&mut shelf, "a", 1, &mut narrow), b"el".as_slice());
     assert_eq!(rt; pulled(&mut shelf, "a", 1, &mut []), b"".as_slice());
-    Ok(())
 }
 
 #[test]
-fn a_sure_shelf_takes_unknown_names_for_empty_files(rt: HostRuntime) -> Result<(), Fail> {
-    let mut shelf = SureShelf::new(three_files(rt.alloc())?);
+fn a_sure_shelf_takes_unknown_names_for_empty_files(rt: HostRuntime) {
+    let mut shelf = SureShelf::new(three_files(&rt, rt.alloc()));
     let calls = [
         ("a", 0, "hello"),
         ("a", 3, "lo"),
@@ -77,7 +81,6 @@ fn a_sure_shelf_takes_unknown_names_for_empty_files(rt: HostRuntime) -> Result<(
         ("unknown", 0, ""),
     ];
     gives(&rt, &mut shelf, &calls);
-    Ok(())
 }
 
 /// How many bytes a sink took, or none where it failed.
@@ -85,50 +88,60 @@ fn pushed(sink: &mut impl Sink, piece: &[u8]) -> Option<usize> {
     sink.push(piece).ok()
 }
 
+/// Asserts of each piece, in turn, how many bytes of it the sink takes, or that it fails.
+fn takes(rt: &impl Abort, sink: &mut impl Sink, calls: &[(&[u8], Option<usize>)]) {
+    for (piece, wanted) in calls {
+        equal(rt, pushed(sink, piece), *wanted, "a piece");
+    }
+}
+
+/// Bytes that fill a sink but for the first two of its room.
+fn rest(rt: &impl Abort, alloc: Global) -> String {
+    sure(rt, "-".repeat(alloc, ROOM - 2))
+}
+
 #[test]
-fn a_memory_sink_fails_where_told_and_past_its_room(rt: HostRuntime) -> Result<(), Fail> {
-    let alloc = rt.alloc();
-    let rest = vec![in alloc; b'-'; ROOM - 2]?;
-    let mut sink = MemorySink::new(alloc, vec![in alloc; 1]?)?;
+fn a_memory_sink_fails_where_told_and_past_its_room(rt: HostRuntime) {
+    let rest = rest(&rt, rt.alloc());
+    let failing = sure(&rt, vec![in rt.alloc(); 1]);
+    let mut sink = sure(&rt, MemorySink::new(rt.alloc(), failing));
     let calls: [(&[u8], Option<usize>); 6] = [
         (b"ab", Some(2)),
         (b"c", None),
         (b"", Some(0)),
-        (rest.as_slice(), Some(ROOM - 2)),
+        (rest.as_bytes(), Some(ROOM - 2)),
         (b"c", None),
         (b"", Some(0)),
     ];
-    for (piece, want) in calls {
-        assert_eq!(rt; pushed(&mut sink, piece), want);
-    }
-    assert_eq!(rt; sink.taken().len(), ROOM);
-    assert!(rt; sink.taken().starts_with(b"ab-"));
-    Ok(())
+    takes(&rt, &mut sink, &calls);
+    equal(&rt, sink.taken().len(), ROOM, "taken");
+    holds(&rt, sink.taken().starts_with(b"ab-"));
 }
 
 #[test]
-fn a_sure_sink_takes_pieces_past_its_room(rt: HostRuntime) -> Result<(), Fail> {
-    let alloc = rt.alloc();
-    let rest = vec![in alloc; b'-'; ROOM - 2]?;
-    let mut sink = SureSink::new(alloc)?;
-    assert_eq!(rt; pushed(&mut sink, b"ab"), Some(2));
-    assert_eq!(rt; sink.taken(), b"ab".as_slice());
-    let calls: [&[u8]; 4] = [rest.as_slice(), b"", b"c", rest.as_slice()];
-    for piece in calls {
-        assert_eq!(rt; pushed(&mut sink, piece), Some(piece.len()));
-    }
-    assert_eq!(rt; sink.taken().len(), ROOM);
-    Ok(())
+fn a_sure_sink_takes_pieces_past_its_room(rt: HostRuntime) {
+    let rest = rest(&rt, rt.alloc());
+    let mut sink = sure(&rt, SureSink::new(rt.alloc()));
+    takes(&rt, &mut sink, &[(b"ab", Some(2))]);
+    holds(&rt, sink.taken() == b"ab".as_slice());
+    let calls: [(&[u8], Option<usize>); 4] = [
+        (rest.as_bytes(), Some(ROOM - 2)),
+        (b"", Some(0)),
+        (b"c", Some(1)),
+        (rest.as_bytes(), Some(ROOM - 2)),
+    ];
+    takes(&rt, &mut sink, &calls);
+    equal(&rt, sink.taken().len(), ROOM, "taken");
 }
 
 #[test]
-fn a_file_shelf_reads_a_real_file_in_pieces(rt: HostRuntime) -> Result<(), Fail> {
-    let folder = env::temp_dir(&rt)?;
+fn a_file_shelf_reads_a_real_file_in_pieces(rt: HostRuntime) {
+    let folder = sure(&rt, env::temp_dir(&rt));
     let folder = folder.as_path().as_str();
     let id = process::id(rt.process());
-    let name = format!(in rt.alloc(); "{folder}/ucq_outside_{id}")?;
+    let name = sure(&rt, format!(in rt.alloc(); "{folder}/ucq_outside_{id}"));
     let name = name.as_str();
-    fs::write(&rt, name, "0123456789abcd")?;
+    sure(&rt, fs::write(&rt, name, "0123456789abcd"));
     let mut shelf = FileShelf::new(&rt);
     let calls = [
         (name, 0, "01234567"),
@@ -139,19 +152,16 @@ fn a_file_shelf_reads_a_real_file_in_pieces(rt: HostRuntime) -> Result<(), Fail>
         (name, 11, "bcd"),
     ];
     gives(&rt, &mut shelf, &calls);
-    fs::remove_file(&rt, name)?;
+    sure(&rt, fs::remove_file(&rt, name));
     gives(&rt, &mut shelf, &[(name, 20, ""), (name, 0, "failed")]);
-    Ok(())
 }
 
 #[test]
-fn a_stream_sink_writes_bytes_that_are_no_text(rt: HostRuntime) -> Result<(), Fail> {
+fn a_stream_sink_writes_bytes_that_are_no_text(rt: HostRuntime) {
     let mut out = StreamSink::out(&rt);
     let mut err = StreamSink::err(&rt);
-    assert_eq!(rt; pushed(&mut out, b"\xff\n"), Some(2));
-    assert_eq!(rt; pushed(&mut err, b"\xff\n"), Some(2));
-    assert_eq!(rt; pushed(&mut err, b""), Some(0));
-    Ok(())
+    takes(&rt, &mut out, &[(b"\xff\n", Some(2))]);
+    takes(&rt, &mut err, &[(b"\xff\n", Some(2)), (b"", Some(0))]);
 }
 
 fn filled_pipe(rt: &HostRuntime) -> io::Result<io::PipeReader> {
@@ -161,10 +171,10 @@ fn filled_pipe(rt: &HostRuntime) -> io::Result<io::PipeReader> {
 }
 
 #[test]
-fn a_file_shelf_reads_a_pipe_which_cannot_seek(rt: HostRuntime) -> Result<(), Fail> {
-    let reader = filled_pipe(&rt)?;
+fn a_file_shelf_reads_a_pipe_which_cannot_seek(rt: HostRuntime) {
+    let reader = sure(&rt, filled_pipe(&rt));
     let descriptor = reader.as_raw_fd();
-    let name = format!(in rt.alloc(); "/dev/fd/{descriptor}")?;
+    let name = sure(&rt, format!(in rt.alloc(); "/dev/fd/{descriptor}"));
     let name = name.as_str();
     let mut shelf = FileShelf::new(&rt);
     let calls = [
@@ -174,7 +184,6 @@ fn a_file_shelf_reads_a_pipe_which_cannot_seek(rt: HostRuntime) -> Result<(), Fa
         (name, 1, "failed"),
     ];
     gives(&rt, &mut shelf, &calls);
-    Ok(())
 }
 
 // An error stream that takes some bytes of a piece, and flushes or not.
@@ -219,6 +228,22 @@ impl StandardError for Terminal {
     }
 }
 
+/// Asserts of error streams, each of which takes so many bytes of a piece and flushes or not, what a sink over it answers.
+fn fails(rt: &impl Abort, streams: &[(usize, bool, Option<usize>)]) {
+    for (takes, flushes, wanted) in streams {
+        let terminal = Terminal {
+            takes: *takes,
+            flushes: *flushes,
+        };
+        equal(
+            rt,
+            pushed(&mut StreamSink::err(&terminal), b"piece"),
+            *wanted,
+            "a stream",
+        );
+    }
+}
+
 #[test]
 fn a_stream_sink_fails_where_nothing_is_taken_or_flushed(rt: HostRuntime) {
     let streams = [
@@ -227,8 +252,5 @@ fn a_stream_sink_fails_where_nothing_is_taken_or_flushed(rt: HostRuntime) {
         (0, true, None),
         (3, false, None),
     ];
-    for (takes, flushes, want) in streams {
-        let terminal = Terminal { takes, flushes };
-        assert_eq!(rt; pushed(&mut StreamSink::err(&terminal), b"piece"), want);
-    }
+    fails(&rt, &streams);
 }

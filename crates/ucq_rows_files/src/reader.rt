@@ -1,10 +1,11 @@
 //! What files stand for.
 ghost use Rattle.std.specs.Prelude.{◌≤◌, ◌^◌, length};
 
+use crate::asserts::{equal, holds, reads, sure};
 use std::alloc::{AllocError, Global};
 use std::process::Abort;
-use std::test::Fail;
 use ucq_reader::{Input, ReadFault, made_input, read_files};
+use ucq_terms::Names;
 
 const UNIVERSITY: &str = "% a small university
 @prefix ub: <http://example.org/univ#>
@@ -53,23 +54,33 @@ fn read_two(alloc: Global, first: &[u8], second: &[u8]) -> Result<Input, ReadFau
     read_files(alloc, files.as_slice())
 }
 
-/// How many rules, fact atoms, answers and query atoms there are, or the refusal, as a line.
-fn line_of(alloc: Global, read: Result<Input, ReadFault>) -> Result<String, AllocError> {
+/// How many rules, fact atoms, answers and query atoms there are.
+fn counts(alloc: Global, input: &Input) -> Result<String, AllocError> {
+    let (rules, facts) = (input.rules.len(), input.facts.len());
+    let (answers, atoms) = (input.query.answers().len(), input.query.atoms().len());
+    format!(in alloc; "{rules} {facts} {answers} {atoms}")
+}
+
+/// The same, or the refusal, as a line.
+fn line_of(rt: &impl Abort, alloc: Global, read: Result<Input, ReadFault>) -> String {
     match read {
-        Ok(input) => {
-            let (rules, facts) = (input.rules.len(), input.facts.len());
-            let (answers, atoms) = (input.query.answers().len(), input.query.atoms().len());
-            format!(in alloc; "{rules} {facts} {answers} {atoms}")
-        }
-        Err(ReadFault::Memory) => Err(AllocError),
-        Err(fault) => format!(in alloc; "{fault:?}"),
+        Ok(input) => sure(rt, counts(alloc, &input)),
+        Err(ReadFault::Memory) => panic!(rt; "no memory"),
+        Err(fault) => sure(rt, format!(in alloc; "{fault:?}")),
     }
 }
 
 /// The line of a file.
-fn line(rt: &impl Abort, alloc: Global, file: &str) -> Result<String, Fail> {
+fn line(rt: &impl Abort, alloc: Global, file: &str) -> String {
     assert!(rt; file.len() <= 1 << 20);
-    Ok(line_of(alloc, read_one(alloc, file.as_bytes()))?)
+    line_of(rt, alloc, read_one(alloc, file.as_bytes()))
+}
+
+/// Asserts of each file what its line is.
+fn assert_lines(rt: &impl Abort, alloc: Global, rows: &[(&str, &str)]) {
+    for (file, wanted) in rows {
+        reads(rt, line(rt, alloc, file).as_str(), wanted, file);
+    }
 }
 
 /// Files, and how many rules, fact atoms, answers and query atoms each has, or why it is refused.
@@ -112,11 +123,8 @@ const FILES: [(&str, &str); 17] = [
 ];
 
 #[test]
-fn refusals_are_exact(rt: HostRuntime) -> Result<(), Fail> {
-    for (file, want) in FILES {
-        assert_eq!(rt; line(&rt, rt.alloc(), file)?.as_str(), want, "{file}");
-    }
-    Ok(())
+fn refusals_are_exact(rt: HostRuntime) {
+    assert_lines(&rt, rt.alloc(), &FILES);
 }
 
 /// Two files, and the same of both together.
@@ -139,30 +147,36 @@ const TWO_FILES: [(&str, &str, &str); 4] = [
     ("p(a), q(Z).", "? :- p(X).", "0 2 0 1"),
 ];
 
-#[test]
-fn the_first_file_that_is_refused_decides(rt: HostRuntime) -> Result<(), Fail> {
-    let alloc = rt.alloc();
-    for (first, second, want) in TWO_FILES {
-        assert!(rt; first.len() <= 100 && second.len() <= 100);
-        let read = read_two(alloc, first.as_bytes(), second.as_bytes());
-        assert_eq!(rt; line_of(alloc, read)?.as_str(), want, "{first} {second}");
-    }
-    Ok(())
+/// The line of two files.
+fn line_of_two(rt: &impl Abort, alloc: Global, first: &str, second: &str) -> String {
+    assert!(rt; first.len() <= 100 && second.len() <= 100);
+    let read = read_two(alloc, first.as_bytes(), second.as_bytes());
+    line_of(rt, alloc, read)
 }
 
-/// The line of a file that has a piece that many times between two ends.
-fn repeated_line(
-    rt: &impl Abort,
+/// Asserts of each two files what their line is.
+fn assert_two(rt: &impl Abort, alloc: Global, rows: &[(&str, &str, &str)]) {
+    for (first, second, wanted) in rows {
+        let line = line_of_two(rt, alloc, first, second);
+        reads(rt, line.as_str(), wanted, second);
+    }
+}
+
+#[test]
+fn the_first_file_that_is_refused_decides(rt: HostRuntime) {
+    assert_two(&rt, rt.alloc(), &TWO_FILES);
+}
+
+/// A piece that many times between two ends.
+fn repeated(
     alloc: Global,
     before: &str,
     piece: &str,
     count: usize,
     after: &str,
-) -> Result<String, Fail> {
-    assert!(rt; piece.len() <= 100 && count <= 5_000);
+) -> Result<String, AllocError> {
     let middle = piece.repeat(alloc, count)?;
-    let file = format!(in alloc; "{before}{middle}{after}")?;
-    line(rt, alloc, file.as_str())
+    format!(in alloc; "{before}{middle}{after}")
 }
 
 /// Files by their parts, and what they have or why they are refused.
@@ -217,76 +231,89 @@ const LIMITS: [(&str, &str, usize, &str, &str); 12] = [
     ("? :- p(X).", "p(X):-q(X).", 4096, "", "4096 0 0 1"),
 ];
 
-#[test]
-fn limits_hold_to_the_last_one(rt: HostRuntime) -> Result<(), Fail> {
-    for (before, piece, count, after, want) in LIMITS {
-        let got = repeated_line(&rt, rt.alloc(), before, piece, count, after)?;
-        assert_eq!(rt; got.as_str(), want, "{before} {piece} {count}");
+/// Asserts of each file by its parts what its line is.
+fn assert_repeated(rt: &impl Abort, alloc: Global, rows: &[(&str, &str, usize, &str, &str)]) {
+    for (before, piece, count, after, wanted) in rows {
+        let file = sure(rt, repeated(alloc, before, piece, *count, after));
+        reads(rt, line(rt, alloc, file.as_str()).as_str(), wanted, before);
     }
-    Ok(())
 }
 
 #[test]
-fn the_university_is_read_with_and_without_its_last_line_feed(rt: HostRuntime) -> Result<(), Fail> {
-    for file in [UNIVERSITY, UNIVERSITY.trim_end_matches('\n')] {
-        assert_eq!(rt; line(&rt, rt.alloc(), file)?.as_str(), "12 8 1 3");
-    }
-    Ok(())
+fn limits_hold_to_the_last_one(rt: HostRuntime) {
+    assert_repeated(&rt, rt.alloc(), &LIMITS);
 }
 
-/// Whether the file is refused.
-fn is_refused(rt: &impl Abort, alloc: Global, file: &[u8]) -> Result<bool, Fail> {
+#[test]
+fn the_university_is_read_with_and_without_its_last_line_feed(rt: HostRuntime) {
+    let unended = UNIVERSITY.trim_end_matches('\n');
+    assert_lines(
+        &rt,
+        rt.alloc(),
+        &[(UNIVERSITY, "12 8 1 3"), (unended, "12 8 1 3")],
+    );
+}
+
+/// Asserts that the file is refused.
+fn refuses(rt: &impl Abort, alloc: Global, file: &[u8]) {
     assert!(rt; file.len() <= 1 << 20);
     match read_one(alloc, file) {
-        Ok(_) => Ok(false),
-        Err(fault) => Ok(fault != ReadFault::Memory),
+        Ok(_) | Err(ReadFault::Memory) => panic!(rt; "{} bytes are not refused", file.len()),
+        Err(_) => {}
+    }
+}
+
+/// Asserts that no front of the text without its last byte is read.
+fn refuses_fronts(rt: &impl Abort, alloc: Global, text: &[u8]) {
+    for end in 0..text.len().saturating_sub(1) {
+        refuses(rt, alloc, &text[..end]);
     }
 }
 
 #[test]
-fn no_front_of_the_university_without_the_last_dot_is_read(rt: HostRuntime) -> Result<(), Fail> {
-    let text = UNIVERSITY.as_bytes();
-    for end in 0..text.len() - 1 {
-        assert!(rt; is_refused(&rt, rt.alloc(), &text[..end])?, "{end} bytes");
-    }
-    Ok(())
+fn no_front_of_the_university_without_the_last_dot_is_read(rt: HostRuntime) {
+    refuses_fronts(&rt, rt.alloc(), UNIVERSITY.as_bytes());
 }
 
 /// The file that is made for 1.
 const MADE: &str = "c0(X) :- c1(X). r(X,Y), c0(Y) :- d(X). ?(X) :- r(X,Y), c0(Y).
 r(u0,v0), c0(v0). r(u1,v1), c1(v1). d(w).";
 
-#[test]
-fn made_input_is_what_its_text_stands_for(rt: HostRuntime) -> Result<(), Fail> {
-    let made = made_input(rt.alloc(), 1)?;
-    let read = read_one(rt.alloc(), MADE.as_bytes())?;
-    assert!(rt; made.rules == read.rules && made.facts == read.facts);
-    assert!(rt; made.query.same(&read.query));
-    assert_eq!(rt; made.names.len(), 9);
-    for (number, name) in ["c0", "c1", "r", "d", "u0", "v0", "u1", "v1", "w"]
-        .iter()
-        .enumerate()
-    {
-        assert_eq!(rt;
-            made.names.find(name.as_bytes()),
-            Some(number as u32),
-            "{name}"
-        );
-        assert_eq!(rt;
-            read.names.find(name.as_bytes()),
-            Some(number as u32),
-            "{name}"
-        );
+/// Its names, in the order of their numbers.
+const NAMES: [&str; 9] = ["c0", "c1", "r", "d", "u0", "v0", "u1", "v1", "w"];
+
+/// Asserts that the names have these texts in turn, and no more.
+fn assert_names(rt: &impl Abort, names: &Names, texts: &[&str]) {
+    let mut number = 0u32;
+    for text in texts {
+        equal(rt, names.find(text.as_bytes()), Some(number), text);
+        number = number.saturating_add(1);
     }
-    Ok(())
+    equal(rt, names.len(), number, "names");
+}
+
+/// What is made for that number.
+fn made(rt: &impl Abort, alloc: Global, number: u32) -> Input {
+    assert!(rt; 0 < number && number <= 4_000);
+    sure(rt, made_input(alloc, number))
 }
 
 #[test]
-fn made_input_grows_with_its_number(rt: HostRuntime) -> Result<(), Fail> {
-    let made = made_input(rt.alloc(), 120)?;
-    assert_eq!(rt; made.names.len(), 366);
-    assert_eq!(rt; made.names.find(b"c120"), Some(120));
-    assert_eq!(rt; made.names.find(b"c121"), None);
-    assert_eq!(rt; line_of(rt.alloc(), Ok(made))?.as_str(), "121 243 1 2");
-    Ok(())
+fn made_input_is_what_its_text_stands_for(rt: HostRuntime) {
+    let made = made(&rt, rt.alloc(), 1);
+    let read = sure(&rt, read_one(rt.alloc(), MADE.as_bytes()));
+    holds(&rt, made.rules == read.rules && made.facts == read.facts);
+    holds(&rt, made.query.same(&read.query));
+    assert_names(&rt, &made.names, &NAMES);
+    assert_names(&rt, &read.names, &NAMES);
+}
+
+#[test]
+fn made_input_grows_with_its_number(rt: HostRuntime) {
+    let made = made(&rt, rt.alloc(), 120);
+    equal(&rt, made.names.len(), 366, "names");
+    equal(&rt, made.names.find(b"c120"), Some(120), "c120");
+    equal(&rt, made.names.find(b"c121"), None, "c121");
+    let line = sure(&rt, counts(rt.alloc(), &made));
+    reads(&rt, line.as_str(), "121 243 1 2", "counts");
 }

@@ -1,6 +1,7 @@
 //! What words stand for.
+use crate::asserts::{reads, sure};
 use std::alloc::{AllocError, Global};
-use std::test::Fail;
+use std::process::Abort;
 use ucq_words::{Job, Settings, WordsFault, settings};
 
 /// Words, each after a bar, and the workers, the budget, whether answers are printed, and the files or the size that they
@@ -76,57 +77,75 @@ fn owned(alloc: Global, text: &str) -> Result<Vec<String>, AllocError> {
     Ok(words)
 }
 
-/// The settings as a line.
-fn line_of(alloc: Global, settings: Settings) -> Result<String, AllocError> {
-    let Settings {
-        workers,
-        budget,
-        answers,
-        job,
-    } = settings;
-    let mut line = format!(in alloc; "{workers} {budget} {answers}")?;
-    match job {
-        Job::Make(number) => write!(line, " make {number}")?,
-        Job::Files(names) => {
-            for name in &names {
-                write!(line, " {name}")?;
-            }
-        }
+/// The names, with a space before each.
+fn joined(alloc: Global, names: &[String]) -> Result<String, AllocError> {
+    let mut text = String::new(alloc);
+    for name in names {
+        write!(text, " {name}")?;
     }
-    Ok(line)
+    Ok(text)
+}
+
+/// The job as the end of a line.
+fn job_of(rt: &impl Abort, alloc: Global, job: &Job) -> String {
+    match job {
+        Job::Make(number) => sure(rt, format!(in alloc; " make {number}")),
+        Job::Files(names) => sure(rt, joined(alloc, names.as_slice())),
+    }
+}
+
+/// The settings as a line.
+fn line_of(rt: &impl Abort, alloc: Global, found: &Settings) -> String {
+    let job = job_of(rt, alloc, &found.job);
+    let (workers, budget, answers) = (found.workers, found.budget, found.answers);
+    sure(rt, format!(in alloc; "{workers} {budget} {answers}{job}"))
 }
 
 /// The settings that the words stand for as a line, or `none`.
-fn told(alloc: Global, text: &str) -> Result<String, AllocError> {
-    match settings(alloc, owned(alloc, text)?.as_slice()) {
-        Ok(found) => line_of(alloc, found),
-        Err(WordsFault::BadWords) => String::from_str(alloc, "none"),
-        Err(WordsFault::Memory) => Err(AllocError),
+fn told(rt: &impl Abort, alloc: Global, text: &str) -> String {
+    let words = sure(rt, owned(alloc, text));
+    match settings(alloc, words.as_slice()) {
+        Ok(found) => line_of(rt, alloc, &found),
+        Err(WordsFault::BadWords) => sure(rt, String::from_str(alloc, "none")),
+        Err(WordsFault::Memory) => panic!(rt; "no memory"),
+    }
+}
+
+/// Asserts of words what settings they stand for.
+fn assert_taken(rt: &impl Abort, alloc: Global, rows: &[(&str, &str)]) {
+    for (text, wanted) in rows {
+        reads(rt, told(rt, alloc, text).as_str(), wanted, text);
     }
 }
 
 #[test]
-fn words_stand_for_settings(rt: HostRuntime) -> Result<(), Fail> {
-    for (text, want) in TAKEN {
-        assert_eq!(rt; told(rt.alloc(), text)?.as_str(), want, "{text}");
+fn words_stand_for_settings(rt: HostRuntime) {
+    assert_taken(&rt, rt.alloc(), &TAKEN);
+}
+
+/// Asserts of words that they stand for no settings.
+fn assert_refused(rt: &impl Abort, alloc: Global, rows: &[&str]) {
+    for text in rows {
+        reads(rt, told(rt, alloc, text).as_str(), "none", text);
     }
-    Ok(())
 }
 
 #[test]
-fn other_words_stand_for_none(rt: HostRuntime) -> Result<(), Fail> {
-    for text in REFUSED {
-        assert_eq!(rt; told(rt.alloc(), text)?.as_str(), "none", "{text}");
-    }
-    Ok(())
+fn other_words_stand_for_none(rt: HostRuntime) {
+    assert_refused(&rt, rt.alloc(), &REFUSED);
+}
+
+/// That many files, each with this before it.
+fn files(rt: &impl Abort, alloc: Global, each: &str, count: usize) -> String {
+    sure(rt, each.repeat(alloc, count))
 }
 
 #[test]
-fn there_are_at_most_64_files(rt: HostRuntime) -> Result<(), Fail> {
-    let most = "|f".repeat(rt.alloc(), 64)?;
-    let more = "|f".repeat(rt.alloc(), 65)?;
-    let line = format!(in rt.alloc(); "1 4096 false{}", " f".repeat(rt.alloc(), 64)?)?;
-    assert_eq!(rt; told(rt.alloc(), most.as_str())?.as_str(), line.as_str());
-    assert_eq!(rt; told(rt.alloc(), more.as_str())?.as_str(), "none");
-    Ok(())
+fn there_are_at_most_64_files(rt: HostRuntime) {
+    let alloc = rt.alloc();
+    let (most, more) = (files(&rt, alloc, "|f", 64), files(&rt, alloc, "|f", 65));
+    let names = files(&rt, alloc, " f", 64);
+    let line = sure(&rt, format!(in alloc; "1 4096 false{names}"));
+    assert_taken(&rt, alloc, &[(most.as_str(), line.as_str())]);
+    assert_refused(&rt, alloc, &[more.as_str()]);
 }
