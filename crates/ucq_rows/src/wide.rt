@@ -40,23 +40,26 @@ fn atoms_of(alloc: Global, number: u32) -> Result<Vec<String>, AllocError> {
     Ok(atoms)
 }
 
+/// The atom without its last term, if that is the variable of the number.
+fn front_of<'a>(
+    alloc: Global,
+    atom: &'a str,
+    variable: u32,
+) -> Result<Option<&'a str>, AllocError> {
+    let ending = format!(in alloc; ",X{variable})")?;
+    Ok(atom.strip_suffix(ending.as_str()))
+}
+
 /// The same of a printed query, if each of its variables stands in one atom. Where one doesn't, its atoms stay as they are.
 fn printed_atoms(alloc: Global, line: &str) -> Result<Vec<String>, AllocError> {
     let mut atoms = Vec::new(alloc);
     let mut variable = 0u32;
-    for atom in line
-        .trim_start_matches("? :- ")
-        .trim_end_matches('.')
-        .split(", ")
-    {
-        let ending = format!(in alloc; ",X{variable})")?;
-        match atom.strip_suffix(ending.as_str()) {
-            Some(front) => {
-                atoms.push(format!(in alloc; "{front}\n")?)?;
-                variable = variable.saturating_add(1);
-            }
-            None => atoms.push(format!(in alloc; "{atom}\n")?)?,
-        }
+    let query = line.trim_start_matches("? :- ").trim_end_matches('.');
+    for atom in query.split(", ") {
+        let front = front_of(alloc, atom, variable)?;
+        variable = variable.saturating_add(u32::from(front.is_some()));
+        let text = front.unwrap_or(atom);
+        atoms.push(format!(in alloc; "{text}\n")?)?;
     }
     atoms.sort()?;
     Ok(atoms)

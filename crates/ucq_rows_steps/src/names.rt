@@ -1,6 +1,4 @@
 //! What numbers names have.
-ghost use Rattle.std.specs.Prelude.{◌<◌, ◌≤◌, ◌+◌, ◌≡◌, length, OnOk};
-
 use crate::asserts::{equal, reads, sure};
 use std::alloc::Global;
 use std::process::Abort;

@@ -1,5 +1,5 @@
 //! What a step answers on worked queries.
-ghost use Rattle.std.specs.Prelude.{◌≡◌, ◌<◌, ◌≤◌, vec_len, IfOk};
+ghost use Rattle.std.specs.Prelude.{◌≡◌, vec_len, IfOk};
 
 use crate::asserts::{asked, equal, holds, room, ruled, sure};
 use std::alloc::{AllocError, Global};
