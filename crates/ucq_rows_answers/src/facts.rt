@@ -1,9 +1,10 @@
 //! Bases of facts, and what matches in them.
+use crate::asserts::{equal, sure};
 use std::alloc::Global;
-use std::test::Fail;
+use std::process::Abort;
 use ucq_facts::Facts;
 use ucq_terms::{Atom, NoMemory, Term};
-use ucq_worked::{WorkedFault, atom, atoms, term};
+use ucq_worked::{atom, atoms, term};
 
 /// Adds the atom, and says whether it is new. A full base is taken for want of memory.
 pub(crate) fn put(facts: &mut Facts, atom: Atom) -> Result<bool, NoMemory> {
@@ -14,12 +15,18 @@ pub(crate) fn put(facts: &mut Facts, atom: Atom) -> Result<bool, NoMemory> {
 }
 
 /// The facts of a text as `pab qUa`.
-pub(crate) fn facts_of(alloc: Global, text: &str) -> Result<Facts, WorkedFault> {
-    let mut facts = Facts::new(alloc)?;
+pub(crate) fn facts_of(rt: &impl Abort, alloc: Global, text: &str) -> Facts {
+    let mut facts = sure(rt, Facts::new(alloc));
     for word in text.split_whitespace() {
-        put(&mut facts, atom(alloc, word)?)?;
+        add(rt, alloc, &mut facts, word);
     }
-    Ok(facts)
+    facts
+}
+
+/// Adds the atom of the word, and says whether it is new.
+fn add(rt: &impl Abort, alloc: Global, facts: &mut Facts, word: &str) -> bool {
+    let atom = sure(rt, atom(alloc, word));
+    sure(rt, put(facts, atom))
 }
 
 const SMALL: &str = "pab pcb paD pa";
@@ -58,25 +65,37 @@ fn are(facts: &Facts, letters: &[u8], wanted: &[Atom]) -> bool {
     found.len() == 0
 }
 
-#[test]
-fn matching_gives_the_facts_in_order(rt: HostRuntime) -> Result<(), Fail> {
-    let facts = facts_of(rt.alloc(), SMALL)?;
-    for (pattern, text) in MATCHES {
-        let wanted = atoms(rt.alloc(), text)?;
-        assert!(rt;
-            are(&facts, pattern.as_bytes(), wanted.as_slice()),
-            "{pattern}"
-        );
+/// Asserts of each pattern which facts match it.
+fn assert_matches(rt: &impl Abort, alloc: Global, facts: &Facts, rows: &[(&str, &str)]) {
+    for (pattern, text) in rows {
+        let wanted = sure(rt, atoms(alloc, text));
+        let found = are(facts, pattern.as_bytes(), wanted.as_slice());
+        equal(rt, found, true, pattern);
     }
-    Ok(())
 }
 
 #[test]
-fn a_held_fact_is_not_added_again(rt: HostRuntime) -> Result<(), Fail> {
-    let mut facts = facts_of(rt.alloc(), SMALL)?;
-    for (word, is_new, count) in [("pcb", false, 4), ("qcb", true, 5)] {
-        assert_eq!(rt; put(&mut facts, atom(rt.alloc(), word)?)?, is_new);
-        assert_eq!(rt; facts.len(), count);
-    }
-    Ok(())
+fn matching_gives_the_facts_in_order(rt: HostRuntime) {
+    let facts = facts_of(&rt, rt.alloc(), SMALL);
+    assert_matches(&rt, rt.alloc(), &facts, &MATCHES);
+}
+
+/// Asserts of the word whether its atom is new, and how many facts there are then.
+fn assert_added(
+    rt: &impl Abort,
+    alloc: Global,
+    facts: &mut Facts,
+    word: &str,
+    is_new: bool,
+    count: u32,
+) {
+    let found = add(rt, alloc, facts, word);
+    equal(rt, (found, facts.len()), (is_new, count), word);
+}
+
+#[test]
+fn a_held_fact_is_not_added_again(rt: HostRuntime) {
+    let mut facts = facts_of(&rt, rt.alloc(), SMALL);
+    assert_added(&rt, rt.alloc(), &mut facts, "pcb", false, 4);
+    assert_added(&rt, rt.alloc(), &mut facts, "qcb", true, 5);
 }

@@ -1,8 +1,8 @@
 //! Answers of worked unions over worked facts.
+use crate::asserts::{holds, reads, sure};
 use crate::facts::facts_of;
-use std::alloc::{AllocError, Global};
+use std::alloc::Global;
 use std::process::Abort;
-use std::test::Fail;
 use std::thread::Threads;
 use ucq_eval::{Tuple, answers, answers_split, tuple_text};
 use ucq_facts::Facts;
@@ -19,35 +19,34 @@ fn queries_of(alloc: Global, text: &str) -> Result<Vec<Query>, WorkedFault> {
 }
 
 /// The union of the queries of a text that has bars between them.
-fn union_of(rt: &impl Abort, alloc: Global, text: &str) -> Result<Union, Fail> {
-    let members = queries_of(alloc, text)?;
+fn union_of(rt: &impl Abort, alloc: Global, text: &str) -> Union {
+    let members = sure(rt, queries_of(alloc, text));
     assert!(rt; members.len() < 1_000);
-    Ok(Union::new(members))
+    Union::new(members)
 }
 
 /// Takes a name up.
-fn name(rt: &impl Abort, names: &mut Names, text: &[u8]) -> Result<(), Fail> {
+fn name(rt: &impl Abort, names: &mut Names, text: &[u8]) {
     assert!(rt; names.len() < 1_000);
-    names.number(text)?;
-    Ok(())
+    sure(rt, names.number(text));
 }
 
 /// The names of a text that has bars between them.
-fn names_of(rt: &impl Abort, alloc: Global, text: &str) -> Result<Names, Fail> {
-    let mut names = Names::new(alloc)?;
+fn names_of(rt: &impl Abort, alloc: Global, text: &str) -> Names {
+    let mut names = sure(rt, Names::new(alloc));
     for word in text.split('|') {
-        name(rt, &mut names, word.as_bytes())?;
+        name(rt, &mut names, word.as_bytes());
     }
-    Ok(names)
+    names
 }
 
 /// A name for each constant of a worked text, which is its letter.
-fn letters(rt: &impl Abort, alloc: Global) -> Result<Names, Fail> {
-    let mut names = Names::new(alloc)?;
+fn letters(rt: &impl Abort, alloc: Global) -> Names {
+    let mut names = sure(rt, Names::new(alloc));
     for letter in 0..128u8 {
-        name(rt, &mut names, &[letter])?;
+        name(rt, &mut names, &[letter]);
     }
-    Ok(names)
+    names
 }
 
 /// The texts of the tuples, one after another.
@@ -71,17 +70,35 @@ const ANSWERS: [(&str, &str, &str); 8] = [
     ("?X pX|?X qX|?X pX qX", "pa pb qb qc", "(a)(b)(c)"),
 ];
 
-/// The texts of the answers, one after another.
-fn found_alone(
-    rt: &impl Abort,
+/// The answers that one thread finds.
+fn whole(
     alloc: Global,
     names: &Names,
-    union: &str,
-    facts: &str,
-) -> Result<Vec<u8>, Fail> {
-    let (asked, held) = (union_of(rt, alloc, union)?, facts_of(alloc, facts)?);
-    let tuples = answers(alloc, &asked, names, &held)?;
-    Ok(text_of(alloc, names, tuples.as_slice())?)
+    union: &Union,
+    facts: &Facts,
+) -> Result<Vec<Tuple>, NoMemory> {
+    answers(alloc, union, names, facts)
+}
+
+/// Their texts, one after another.
+fn found_alone(rt: &impl Abort, alloc: Global, names: &Names, union: &str, facts: &str) -> Vec<u8> {
+    let (asked, held) = (union_of(rt, alloc, union), facts_of(rt, alloc, facts));
+    let tuples = sure(rt, whole(alloc, names, &asked, &held));
+    sure(rt, text_of(alloc, names, tuples.as_slice()))
+}
+
+/// Asserts of unions over facts what answers one thread finds.
+fn assert_alone(rt: &impl Abort, alloc: Global, names: &Names, rows: &[(&str, &str, &str)]) {
+    for (union, facts, wanted) in rows {
+        let found = found_alone(rt, alloc, names, union, facts);
+        reads(rt, found.as_slice(), wanted, union);
+    }
+}
+
+#[test]
+fn a_union_has_the_answers_of_its_members(rt: HostRuntime) {
+    let names = letters(&rt, rt.alloc());
+    assert_alone(&rt, rt.alloc(), &names, &ANSWERS);
 }
 
 /// The answers that several threads find.
@@ -102,50 +119,49 @@ fn found_by_threads<R: Threads + Sync + Abort>(
     names: &Names,
     union: &str,
     facts: &str,
-) -> Result<Vec<u8>, Fail> {
-    let (asked, held) = (union_of(rt, alloc, union)?, facts_of(alloc, facts)?);
-    let tuples = split(rt, alloc, names, &asked, &held)?;
-    Ok(text_of(alloc, names, tuples.as_slice())?)
+) -> Vec<u8> {
+    let (asked, held) = (union_of(rt, alloc, union), facts_of(rt, alloc, facts));
+    let tuples = sure(rt, split(rt, alloc, names, &asked, &held));
+    sure(rt, text_of(alloc, names, tuples.as_slice()))
+}
+
+/// Asserts of unions over facts what answers several threads find.
+fn assert_split<R: Threads + Sync + Abort>(
+    rt: &R,
+    alloc: Global,
+    names: &Names,
+    rows: &[(&str, &str, &str)],
+) {
+    for (union, facts, wanted) in rows {
+        let found = found_by_threads(rt, alloc, names, union, facts);
+        reads(rt, found.as_slice(), wanted, union);
+    }
 }
 
 #[test]
-fn a_union_has_the_answers_of_its_members(rt: HostRuntime) -> Result<(), Fail> {
-    let names = letters(&rt, rt.alloc())?;
-    for (union, facts, want) in ANSWERS {
-        let found = found_alone(&rt, rt.alloc(), &names, union, facts)?;
-        assert_eq!(rt; found.as_slice(), want.as_bytes(), "{union}");
-    }
-    Ok(())
-}
-
-#[test]
-fn several_threads_find_the_same_answers(rt: HostRuntime) -> Result<(), Fail> {
-    let names = letters(&rt, rt.alloc())?;
-    for (union, facts, want) in ANSWERS {
-        let found = found_by_threads(&rt, rt.alloc(), &names, union, facts)?;
-        assert_eq!(rt; found.as_slice(), want.as_bytes(), "{union}");
-    }
-    Ok(())
+fn several_threads_find_the_same_answers(rt: HostRuntime) {
+    let names = letters(&rt, rt.alloc());
+    assert_split(&rt, rt.alloc(), &names, &ANSWERS);
 }
 
 /// Facts whose constants are the numbers from 0 on.
 const NUMBERED: &str = "p\u{0} p\u{1} q\u{2} q\u{1} pU";
 
+/// Unions over them, and the answers for names that are not in byte order.
+const IN_BYTE_ORDER: [(&str, &str, &str); 2] = [
+    ("?X pX|?X qX", NUMBERED, "(a)(a,b)(b)"),
+    ("?X pX|?X qX|?X pX qX", NUMBERED, "(a)(a,b)(b)"),
+];
+
 #[test]
-fn answers_stand_in_byte_order_of_their_texts(rt: HostRuntime) -> Result<(), Fail> {
-    let names = names_of(&rt, rt.alloc(), "b|a|a,b")?;
-    for union in ["?X pX|?X qX", "?X pX|?X qX|?X pX qX"] {
-        let alone = found_alone(&rt, rt.alloc(), &names, union, NUMBERED)?;
-        let split = found_by_threads(&rt, rt.alloc(), &names, union, NUMBERED)?;
-        assert_eq!(rt; alone.as_slice(), b"(a)(a,b)(b)".as_slice());
-        assert_eq!(rt; split.as_slice(), b"(a)(a,b)(b)".as_slice());
-    }
-    Ok(())
+fn answers_stand_in_byte_order_of_their_texts(rt: HostRuntime) {
+    let names = names_of(&rt, rt.alloc(), "b|a|a,b");
+    assert_alone(&rt, rt.alloc(), &names, &IN_BYTE_ORDER);
+    assert_split(&rt, rt.alloc(), &names, &IN_BYTE_ORDER);
 }
 
 #[test]
-fn a_tuple_has_its_numbers(rt: HostRuntime) -> Result<(), Fail> {
-    let pair = Tuple::new(Vec::from_slice(rt.alloc(), &[1, 0])?);
-    assert_eq!(rt; pair.names(), [1, 0].as_slice());
-    Ok(())
+fn a_tuple_has_its_numbers(rt: HostRuntime) {
+    let pair = Tuple::new(sure(&rt, Vec::from_slice(rt.alloc(), &[1, 0])));
+    holds(&rt, pair.names() == [1, 0].as_slice());
 }

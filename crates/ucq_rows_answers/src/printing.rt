@@ -1,16 +1,16 @@
 //! Printed queries, unions, answers, counts and refusals.
 ghost use Rattle.std.specs.Prelude.{◌≤◌, ◌^◌, length};
 
-use std::alloc::Global;
+use crate::asserts::{equal, reads, sure};
+use std::alloc::{AllocError, Global};
 use std::process::Abort;
-use std::test::Fail;
 use ucq_eval::Tuple;
 use ucq_print::{
     answer_line, answer_line_count, finished_line, finished_line_count, query_text, refusal_text,
     summary_line, summary_line_count,
 };
 use ucq_reader::{Input, ReadFault, Whole, read_files};
-use ucq_terms::{Names, NoMemory, Union};
+use ucq_terms::{Names, NoMemory, Query, Union};
 
 /// What one file stands for.
 fn read_one(alloc: Global, text: &str) -> Result<Input, ReadFault>
@@ -22,9 +22,9 @@ fn read_one(alloc: Global, text: &str) -> Result<Input, ReadFault>
 }
 
 /// The same for a file of a table.
-fn read(rt: &impl Abort, alloc: Global, text: &str) -> Result<Input, Fail> {
+fn read(rt: &impl Abort, alloc: Global, text: &str) -> Input {
     assert!(rt; text.len() <= 1_000);
-    Ok(read_one(alloc, text)?)
+    sure(rt, read_one(alloc, text))
 }
 
 /// Files, and their queries as they are printed.
@@ -41,14 +41,18 @@ const QUERIES: [(&str, &str); 4] = [
     ),
 ];
 
-#[test]
-fn a_query_is_printed_in_the_input_format(rt: HostRuntime) -> Result<(), Fail> {
-    for (file, printed) in QUERIES {
-        let input = read(&rt, rt.alloc(), file)?;
-        let text = query_text(rt.alloc(), &input.names, &input.query)?;
-        assert_eq!(rt; text.as_slice(), printed.as_bytes());
+/// Asserts of each file how its query is printed.
+fn assert_printed(rt: &impl Abort, alloc: Global, rows: &[(&str, &str)]) {
+    for (file, wanted) in rows {
+        let input = read(rt, alloc, file);
+        let text = sure(rt, query_text(alloc, &input.names, &input.query));
+        reads(rt, text.as_slice(), wanted, file);
     }
-    Ok(())
+}
+
+#[test]
+fn a_query_is_printed_in_the_input_format(rt: HostRuntime) {
+    assert_printed(&rt, rt.alloc(), &QUERIES);
 }
 
 /// The lines of answers.
@@ -60,16 +64,26 @@ fn answer_text(alloc: Global, names: &Names, tuples: &[Tuple]) -> Result<Vec<u8>
     Ok(text)
 }
 
+/// A pair of names and a tuple of none.
+fn two_tuples(alloc: Global) -> Result<Vec<Tuple>, AllocError> {
+    let pair = Tuple::new(Vec::from_slice(alloc, &[0, 1])?);
+    Ok(vec![in alloc; pair, Tuple::new(Vec::new(alloc))]?)
+}
+
 #[test]
-fn answers_are_printed_a_line_at_a_time(rt: HostRuntime) -> Result<(), Fail> {
-    let alloc = rt.alloc();
-    let input = read(&rt, alloc, "? :- a(b).")?;
-    let mut tuples = Vec::new(alloc);
-    tuples.push(Tuple::new(Vec::from_slice(alloc, &[0, 1])?))?;
-    tuples.push(Tuple::new(Vec::new(alloc)))?;
-    let text = answer_text(alloc, &input.names, tuples.as_slice())?;
-    assert_eq!(rt; text.as_slice(), b"% answers 2\n% (a,b)\n% ()\n".as_slice());
-    Ok(())
+fn answers_are_printed_a_line_at_a_time(rt: HostRuntime) {
+    let input = read(&rt, rt.alloc(), "? :- a(b).");
+    let tuples = sure(&rt, two_tuples(rt.alloc()));
+    let text = sure(
+        &rt,
+        answer_text(rt.alloc(), &input.names, tuples.as_slice()),
+    );
+    reads(
+        &rt,
+        text.as_slice(),
+        "% answers 2\n% (a,b)\n% ()\n",
+        "answers",
+    );
 }
 
 /// The lines of counts, of which there are four.
@@ -88,14 +102,11 @@ fn summary_text(
 }
 
 #[test]
-fn counts_are_printed_a_line_at_a_time(rt: HostRuntime) -> Result<(), Fail> {
-    assert_eq!(rt; summary_line_count(), 4);
-    let text = summary_text(rt.alloc(), 3, 5, 4)?;
-    assert_eq!(rt;
-        text.as_slice(),
-        b"% finished\n% queries 3\n% atoms 5\n% answers 4\n".as_slice()
-    );
-    Ok(())
+fn counts_are_printed_a_line_at_a_time(rt: HostRuntime) {
+    equal(&rt, summary_line_count(), 4, "lines");
+    let text = sure(&rt, summary_text(rt.alloc(), 3, 5, 4));
+    let wanted = "% finished\n% queries 3\n% atoms 5\n% answers 4\n";
+    reads(&rt, text.as_slice(), wanted, "counts");
 }
 
 /// The lines of a finished union.
@@ -107,19 +118,23 @@ fn finished_text(alloc: Global, names: &Names, union: &Union) -> Result<Vec<u8>,
     Ok(text)
 }
 
-#[test]
-fn a_union_is_printed_a_line_at_a_time(rt: HostRuntime) -> Result<(), Fail> {
-    let alloc = rt.alloc();
-    let input = read(&rt, alloc, "? :- p(X,Y), p(Y,Z).")?;
-    let mut queries = Vec::new(alloc);
-    queries.push(input.query.copy()?)?;
-    queries.push(input.query)?;
-    let text = finished_text(alloc, &input.names, &Union::new(queries))?;
-    let line = "? :- p(X0,X1), p(X1,X2).\n";
-    let want = format!(in alloc; "% finished\n% queries 2\n{line}{line}")?;
-    assert_eq!(rt; text.as_slice(), want.as_bytes());
-    Ok(())
+/// The union that has the query twice.
+fn twice(alloc: Global, query: &Query) -> Result<Union, NoMemory> {
+    let queries = vec![in alloc; query.copy()?, query.copy()?]?;
+    Ok(Union::new(queries))
 }
+
+#[test]
+fn a_union_is_printed_a_line_at_a_time(rt: HostRuntime) {
+    let input = read(&rt, rt.alloc(), "? :- p(X,Y), p(Y,Z).");
+    let union = sure(&rt, twice(rt.alloc(), &input.query));
+    let text = sure(&rt, finished_text(rt.alloc(), &input.names, &union));
+    reads(&rt, text.as_slice(), TWO_PATHS, "a union");
+}
+
+/// A union that has a path of two edges twice.
+const TWO_PATHS: &str =
+    "% finished\n% queries 2\n? :- p(X0,X1), p(X1,X2).\n? :- p(X0,X1), p(X1,X2).\n";
 
 /// What two files stand for.
 fn read_two(alloc: Global, first: &str, second: &str) -> Result<Input, ReadFault>
@@ -133,21 +148,32 @@ fn read_two(alloc: Global, first: &str, second: &str) -> Result<Input, ReadFault
 }
 
 /// A refusal's text.
-fn refusal(alloc: Global, fault: &ReadFault) -> Result<Vec<u8>, NoMemory> {
+fn refusal(rt: &impl Abort, alloc: Global, fault: &ReadFault) -> Vec<u8> {
     match fault {
-        ReadFault::Memory => Err(NoMemory),
-        _ => refusal_text(alloc, fault),
+        ReadFault::Memory => panic!(rt; "no memory"),
+        _ => sure(rt, refusal_text(alloc, fault)),
     }
 }
 
-/// The text of the refusal of a second file that has two facts before this.
-fn refused(rt: &impl Abort, alloc: Global, rest: &str) -> Result<Vec<u8>, Fail> {
-    let second = format!(in alloc; "p(a). p(a). {rest}")?;
+/// The text of the refusal of a second file.
+fn refused(rt: &impl Abort, alloc: Global, second: &str) -> Vec<u8> {
     assert!(rt; second.len() <= 1 << 20);
-    match read_two(alloc, "p(a).", second.as_str()) {
+    match read_two(alloc, "p(a).", second) {
         Ok(_) => panic!(rt; "read"),
-        Err(fault) => Ok(refusal(alloc, &fault)?),
+        Err(fault) => refusal(rt, alloc, &fault),
     }
+}
+
+/// The second file that has two facts and then a piece that many times between two ends.
+fn second_file(
+    alloc: Global,
+    before: &str,
+    piece: &str,
+    count: usize,
+    after: &str,
+) -> Result<String, AllocError> {
+    let middle = piece.repeat(alloc, count)?;
+    format!(in alloc; "p(a). p(a). {before}{middle}{after}")
 }
 
 /// What follows two facts in a second file, and the text of its refusal.
@@ -184,13 +210,18 @@ const REFUSED: [(&str, &str); 12] = [
     ),
 ];
 
-#[test]
-fn a_refusal_has_its_text(rt: HostRuntime) -> Result<(), Fail> {
-    for (rest, want) in REFUSED {
-        let text = refused(&rt, rt.alloc(), rest)?;
-        assert_eq!(rt; text.as_slice(), want.as_bytes());
+/// Asserts of each rest of a second file what the text of its refusal is.
+fn assert_refused(rt: &impl Abort, alloc: Global, rows: &[(&str, &str)]) {
+    for (rest, wanted) in rows {
+        let second = sure(rt, second_file(alloc, rest, "", 0, ""));
+        let text = refused(rt, alloc, second.as_str());
+        reads(rt, text.as_slice(), wanted, rest);
     }
-    Ok(())
+}
+
+#[test]
+fn a_refusal_has_its_text(rt: HostRuntime) {
+    assert_refused(&rt, rt.alloc(), &REFUSED);
 }
 
 /// The parts of what follows two facts in a second file, where the middle one is repeated, and the text of its refusal.
@@ -218,27 +249,27 @@ const REPEATED: [(&str, &str, usize, &str, &str); 3] = [
     ),
 ];
 
-#[test]
-fn a_limit_that_is_passed_has_its_text(rt: HostRuntime) -> Result<(), Fail> {
-    for (before, piece, count, after, want) in REPEATED {
-        let middle = piece.repeat(rt.alloc(), count)?;
-        let rest = format!(in rt.alloc(); "{before}{middle}{after}")?;
-        let text = refused(&rt, rt.alloc(), rest.as_str())?;
-        assert_eq!(rt; text.as_slice(), want.as_bytes());
+/// The same where a piece is repeated.
+fn assert_limits(rt: &impl Abort, alloc: Global, rows: &[(&str, &str, usize, &str, &str)]) {
+    for (before, piece, count, after, wanted) in rows {
+        let second = sure(rt, second_file(alloc, before, piece, *count, after));
+        let text = refused(rt, alloc, second.as_str());
+        reads(rt, text.as_slice(), wanted, before);
     }
-    Ok(())
 }
 
 #[test]
-fn too_many_facts_have_their_text(rt: HostRuntime) -> Result<(), Fail> {
+fn a_limit_that_is_passed_has_its_text(rt: HostRuntime) {
+    assert_limits(&rt, rt.alloc(), &REPEATED);
+}
+
+#[test]
+fn too_many_facts_have_their_text(rt: HostRuntime) {
     let fault = ReadFault::TooMany {
         which: Whole::Facts,
         count: 1_048_577,
     };
-    let text = refusal(rt.alloc(), &fault)?;
-    assert_eq!(rt;
-        text.as_slice(),
-        b"ucq: facts limit passed with 1048577".as_slice()
-    );
-    Ok(())
+    let text = refusal(&rt, rt.alloc(), &fault);
+    let wanted = "ucq: facts limit passed with 1048577";
+    reads(&rt, text.as_slice(), wanted, "facts");
 }

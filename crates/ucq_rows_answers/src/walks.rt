@@ -1,9 +1,9 @@
 //! Many drawn facts: what matches is what a walk of all facts finds.
 ghost use Rattle.std.specs.Prelude.{◌<◌, ◌≤◌, length};
 
+use crate::asserts::{equal, holds, sure};
 use crate::facts::put;
 use std::alloc::{AllocError, Global};
-use std::test::Fail;
 use ucq_facts::Facts;
 use ucq_terms::{Atom, NoMemory, Term};
 
@@ -120,16 +120,21 @@ fn fill(alloc: Global, facts: &mut Facts, all: &mut Vec<Atom>) -> Result<bool, N
     Ok(true)
 }
 
+/// How many terms the atoms have together.
+fn count_of_terms(all: &[Atom]) -> usize {
+    let mut count = 0usize;
+    for atom in all {
+        count = count.saturating_add(atom.terms().len());
+    }
+    count
+}
+
 #[test]
-fn matching_finds_what_a_walk_finds(rt: HostRuntime) -> Result<(), Fail> {
-    let alloc = rt.alloc();
-    let (mut facts, mut all) = (Facts::new(alloc)?, Vec::new(alloc));
-    assert!(rt; fill(alloc, &mut facts, &mut all)?);
-    let terms = all.iter().fold(
-        0usize,
-        |count, atom| count.saturating_add(atom.terms().len()),
-    );
-    assert!(rt; all.len() > 200 && terms > 500);
-    assert!(rt; walk_predicates(&facts, all.as_slice()) == Some((all.len(), terms)));
-    Ok(())
+fn matching_finds_what_a_walk_finds(rt: HostRuntime) {
+    let (mut facts, mut all) = (sure(&rt, Facts::new(rt.alloc())), Vec::new(rt.alloc()));
+    holds(&rt, sure(&rt, fill(rt.alloc(), &mut facts, &mut all)));
+    let terms = count_of_terms(all.as_slice());
+    holds(&rt, all.len() > 200 && terms > 500);
+    let found = walk_predicates(&facts, all.as_slice());
+    equal(&rt, found, Some((all.len(), terms)), "walks");
 }
