@@ -1,6 +1,6 @@
 -- Lines by their places.
 use Rattle.std.proofs.Common.{◌≡◌, ◌≢◌, ℕ, zero, suc, ◌+◌, ◌-◌, ◌<◌, ◌≤◌, List, [], ◌∷◌, ◌++◌, length, take, drop, get_or, add-one, refl, sym, ap, ◌∙◌, arith}
-use Rattle.std.specs.Prelude.{Some, slice_get}
+use Rattle.std.specs.Prelude.{Some, codes, slice_get}
 use Rattle.std.specs.Option.{option_map}
 use Rattle.std.proofs.Math.Seq.{split_at, take-suc}
 use Rattle.std.proofs.lemmas.Grind.{flat_map-append}
@@ -9,7 +9,8 @@ use Rattle.std.proofs.lemmas.List.{length-map, append-nil}
 use Rattle.ucq_terms.specs.Syntax.{Query}
 use Rattle.ucq_antichain.specs.declared.Row.{Row}
 use Rattle.ucq_antichain.specs.Rows.{no_row, row_at}
-use Rattle.ucq_print.specs.Texts.{answer_lines, tuple_line, query_line, row_line, row_lines, left_line, lines_text, finished_lines, rows_cut_lines, wide_cut_lines}
+use Rattle.ucq_eval.specs.Tuples.{tuple_text}
+use Rattle.ucq_print.specs.Texts.{answer_lines, line_feed, tuple_line, query_line, row_line, row_lines, left_line, lines_text, finished_lines, rows_cut_lines, wide_cut_lines}
 
 -- an element of a list's front, and the one behind it
 slice_get-front : {X : Type 0} (xs ys : List X) (k : ℕ) → k < length xs → slice_get (xs ++ ys) k ≡ slice_get xs k
@@ -82,3 +83,16 @@ tuple_at_place names tuples (suc k) tuple line other h at is =
     let same : suc k - 1 ≡ k = omega arith in
     let here : get_or tuples k tuple ≡ tuple = ap (λ (n : ℕ). get_or tuples n tuple) (sym same) ∙ sym at in
     slice_get-map (tuple_line names) tuples k ∙ ap (option_map (tuple_line names)) (slice_get-get_or tuples k tuple inside) ∙ ap (λ (t : List ℕ). Some (tuple_line names t)) here ∙ ap Some (sym is)
+
+-- the same where the tuple's text was made before
+pub text_at_place : (names : List (List ℕ)) (tuples : List (List ℕ)) (place : ℕ) (text line : List ℕ) → place ≢ 0 → place < length (answer_lines names tuples) →
+    ((tuple : List ℕ) → slice_get tuples (place - 1) ≡ Some tuple → text ≡ tuple_text names tuple) → line ≡ codes "% " ++ text ++ line_feed →
+    slice_get (answer_lines names tuples) place ≡ Some line
+text_at_place names tuples zero text line other h at is = absurd (other refl)
+text_at_place names tuples (suc k) text line other h at is =
+    let inside : k < length tuples = omega (arith, h, length-map tuples (tuple_line names)) in
+    let same : suc k - 1 ≡ k = omega arith in
+    let tuple : List ℕ = get_or tuples k [] in
+    let here : slice_get tuples k ≡ Some tuple = slice_get-get_or tuples k [] inside in
+    let told : text ≡ tuple_text names tuple = at tuple (ap (slice_get tuples) same ∙ here) in
+    slice_get-map (tuple_line names) tuples k ∙ (ap (option_map (tuple_line names)) here ∙ ap Some (sym (is ∙ ap (λ (t : List ℕ). codes "% " ++ t ++ line_feed) told)))

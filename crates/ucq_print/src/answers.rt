@@ -4,7 +4,7 @@ ghost use Rattle.ucq_print.specs.Texts.{answer_count_line, answer_lines, atom_co
 
 use itoa::Buffer;
 use std::alloc::Global;
-use ucq_eval::{Tuple, tuple_text};
+use ucq_eval::{Answers, Tuple, tuple_text};
 use ucq_terms::{Names, NoMemory};
 
 /// These bytes, the number and a line feed.
@@ -17,15 +17,22 @@ pub(crate) fn number_line(alloc: Global, before: &[u8], number: u64) -> Result<V
     Ok(line)
 }
 
+/// The text of a tuple on a line of its own.
+fn line_of_text(alloc: Global, text: &[u8]) -> Result<Vec<u8>, NoMemory>
+    ensures { IfOk result (λ line. line.items ≡ codes "% " ++ text.now ++ line_feed) }
+{
+    let mut line = Vec::from_slice(alloc, b"% ")?;
+    line.extend_from_slice(text)?;
+    line.push(b'\n')?;
+    Ok(line)
+}
+
 /// A tuple on a line of its own.
 fn tuple_line(alloc: Global, names: &Names, tuple: &Tuple) -> Result<Vec<u8>, NoMemory>
     ensures { IfOk result (λ line. line.items ≡ tuple_line_of names.now tuple.now) }
 {
     let text = tuple_text(alloc, names, tuple)?;
-    let mut line = Vec::from_slice(alloc, b"% ")?;
-    line.extend_from_slice(text.as_slice())?;
-    line.push(b'\n')?;
-    Ok(line)
+    line_of_text(alloc, text.as_slice())
 }
 
 /// How many lines the answers have.
@@ -50,6 +57,25 @@ pub fn answer_line(
     match place {
         0 => number_line(alloc, b"% answers ", tuples.len() as u64),
         _ => tuple_line(alloc, names, &tuples[(place - 1) as usize]),
+    }
+}
+
+/// How many lines these answers have.
+pub fn kept_answer_line_count(answers: &Answers) -> u64
+    ensures lines { result ≡ length (answer_lines answers.now.names answers.now.tuples) }
+    ensures few { result ≤ 2 ^ 63 }
+{
+    answers.len() as u64 + 1
+}
+
+/// The line at this place of the answers, with its line feed, as `answer_line` gives it. No text of a tuple is made anew.
+pub fn kept_answer_line(alloc: Global, answers: &Answers, place: u64) -> Result<Vec<u8>, NoMemory>
+    requires { place < length (answer_lines answers.now.names answers.now.tuples) }
+    ensures { IfOk result (λ line. slice_get (answer_lines answers.now.names answers.now.tuples) place ≡ Some line.items) }
+{
+    match place {
+        0 => number_line(alloc, b"% answers ", answers.len() as u64),
+        _ => line_of_text(alloc, answers.text((place - 1) as usize)),
     }
 }
 

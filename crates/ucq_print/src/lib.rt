@@ -11,7 +11,10 @@ pub mod laws;
 mod queries;
 mod refusals;
 
-pub use answers::{answer_line, answer_line_count, summary_line, summary_line_count};
+pub use answers::{
+    answer_line, answer_line_count, kept_answer_line, kept_answer_line_count, summary_line,
+    summary_line_count,
+};
 pub use cuts::{cut_line, cut_line_count};
 pub use finished::{finished_line, finished_line_count};
 pub use queries::query_text;
