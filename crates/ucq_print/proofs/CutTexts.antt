@@ -1,16 +1,19 @@
 -- The texts of cuts are read back.
-use Rattle.std.proofs.Common.{◌≡◌, ◌≢◌, ℕ, zero, suc, ◌<◌, ◌^◌, Bool, true, false, List, [], ◌∷◌, ◌++◌, map, drop, All, inl, inr, refl, sym, ap, ap₂, ◌∙◌, subst, append_assoc, arith}
+use Rattle.std.proofs.Common.{◌≡◌, ◌≢◌, ℕ, zero, suc, ◌<◌, ◌^◌, Bool, true, false, List, [], ◌∷◌, ◌++◌, map, drop, get_or, All, inl, inr, refl, sym, ap, ap₂, ◌∙◌, subst, append_assoc, arith}
 use Rattle.std.specs.Prelude.{codes, decimal}
 use Rattle.std.proofs.lemmas.List.{append_cancel_left, append-nil}
 use Rattle.std.proofs.lemmas.List.Concat.{flat_map-append}
+use Rattle.std.proofs.lemmas.List.Elements.{All-map}
 use Rattle.ucq_terms.specs.Syntax.{Query}
 use Rattle.ucq_terms.specs.Numbering.{numbered_query}
 use Rattle.ucq_antichain.specs.declared.Row.{Row}
 use Rattle.ucq_print.specs.Texts.{line_feed, life_text, query_text, query_line, row_line, row_lines, lines_text, left_line, rows_cut_line, rows_cut_text, wide_cut_line, wide_cut_text, finished_text}
-use Rattle.ucq_print.specs.Laws.{IsPrintable, AreReadable, ArePrintableRows, numbered_row, BeginsARow}
+use Rattle.ucq_print.specs.Laws.{IsLine, IsPrintable, AreReadable, ArePrintableRows, numbered_row, BeginsARow}
 use Rattle.ucq_print.proofs.Spelled.{AreOne, decimals_apart, heads_differ, tails}
+use Rattle.ucq_print.proofs.LineFeeds.{IsSingle, is_told, single_both, single_run}
+use Rattle.ucq_print.proofs.ToldLines.{IsBeginning, ended_lines, lines_tell}
 use Rattle.ucq_print.proofs.ReadBack.{numbered_apart}
-use Rattle.ucq_print.proofs.Unions.{printed_query}
+use Rattle.ucq_print.proofs.Unions.{printed_query, query_is_single, query_told}
 
 module _ (names : List (List ℕ)) (readable : AreReadable names) where
   abbrev rows_text : List Row → List ℕ
@@ -34,37 +37,53 @@ module _ (names : List (List ℕ)) (readable : AreReadable names) where
   abbrev row_of : Query → Bool → Row
   row_of q live = record { query = q; live = live }
 
-  marked_apart : (a b : Bool) (p q : Query) (x y : List ℕ) → IsPrintable names p → IsPrintable names q →
-      (life_text a ++ query_line names p) ++ x ≡ (life_text b ++ query_line names q) ++ y → AreOne (row_of (numbered_query p) a) (row_of (numbered_query q) b) x y
-  marked_apart true true p q x y h k e = let one = line_apart p q x y h k e in record { front = ap (λ (r : Query). row_of r true) one.front; rest = one.rest }
-  marked_apart true false p q x y h k e =
-      absurd (heads_differ 63 37 (drop 1 (query_line names p ++ x)) (drop 1 ((codes "% dead " ++ query_line names q) ++ y)) (λ f. omega arith) e)
-  marked_apart false true p q x y h k e =
-      absurd (heads_differ 37 63 (drop 1 ((codes "% dead " ++ query_line names p) ++ x)) (drop 1 (query_line names q ++ y)) (λ f. omega arith) e)
-  marked_apart false false p q x y h k e =
-      let whole =
-      append_cancel_left (codes "% dead ") (query_line names p ++ x) (query_line names q ++ y)
-      (sym (append_assoc (codes "% dead ") (query_line names p) x) ∙ (e ∙ append_assoc (codes "% dead ") (query_line names q) y)) in
-      let one = line_apart p q x y h k whole in
-      record { front = ap (λ (r : Query). row_of r false) one.front; rest = one.rest }
+  abbrev IsPrintableRow : Row → Type 0
+  IsPrintableRow row = IsPrintable names row.query
+
+  row_is_line : (row : Row) → IsPrintableRow row → IsLine (row_line names row)
+  row_is_line row h = marked row.live
+    where
+      text : IsSingle (query_text names row.query)
+      text = query_is_single names readable row.query h
+
+      mark : (live : Bool) → IsSingle (life_text live)
+      mark true = single_run is_told [] refl refl
+      mark false = single_run is_told (codes "% dead ") refl refl
+
+      marked : (live : Bool) → IsLine (life_text live ++ query_line names row.query)
+      marked live = record {
+        inner = life_text live ++ query_text names row.query;
+        is = sym (append_assoc (life_text live) (query_text names row.query) line_feed);
+        single = (single_both (life_text live) (query_text names row.query) (mark live) text).free;
+      }
+
+  -- a row by its line
+  marked_told : (a b : Bool) (p q : Query) → IsPrintable names p → IsPrintable names q → life_text a ++ query_line names p ≡ life_text b ++ query_line names q →
+      row_of (numbered_query p) a ≡ row_of (numbered_query q) b
+  marked_told true true p q h k e = ap (λ (r : Query). row_of r true) (query_told names readable p q h k e)
+  marked_told true false p q h k e = absurd (heads_differ 63 37 (drop 1 (query_line names p)) (drop 1 (codes "% dead " ++ query_line names q)) (λ f. omega arith) e)
+  marked_told false true p q h k e = absurd (heads_differ 37 63 (drop 1 (codes "% dead " ++ query_line names p)) (drop 1 (query_line names q)) (λ f. omega arith) e)
+  marked_told false false p q h k e =
+      ap (λ (r : Query). row_of r false) (query_told names readable p q h k (append_cancel_left (codes "% dead ") (query_line names p) (query_line names q) e))
+
+  row_told : (r s : Row) → IsPrintableRow r → IsPrintableRow s → row_line names r ≡ row_line names s → numbered_row r ≡ numbered_row s
+  row_told r s h k e = marked_told r.live s.live r.query s.query h k e
 
   abbrev AllPrintable : List Row → Type 0
-  AllPrintable rows = All (λ (row : Row). IsPrintable names row.query) rows
+  AllPrintable rows = All IsPrintableRow rows
 
   -- rows, and what begins no row
   rows_apart : (rs ss : List Row) (x y : List ℕ) → AllPrintable rs → AllPrintable ss → ¬ BeginsARow x → ¬ BeginsARow y → rows_text rs ++ x ≡ rows_text ss ++ y →
       AreOne (map numbered_row rs) (map numbered_row ss) x y
-  rows_apart [] [] x y h k none none_other e = record { front = refl; rest = e }
-  rows_apart [] (s ∷ ss) x y h k none none_other e =
-      absurd (none (subst BeginsARow (sym (append_assoc (row_line names s) (rows_text ss) y) ∙ sym e) (begins_a_row s (rows_text ss ++ y))))
-  rows_apart (r ∷ rs) [] x y h k none none_other e =
-      absurd (none_other (subst BeginsARow (sym (append_assoc (row_line names r) (rows_text rs) x) ∙ e) (begins_a_row r (rows_text rs ++ x))))
-  rows_apart (r ∷ rs) (s ∷ ss) x y h k none none_other e =
-      let whole : row_line names r ++ (rows_text rs ++ x) ≡ row_line names s ++ (rows_text ss ++ y) =
-      sym (append_assoc (row_line names r) (rows_text rs) x) ∙ (e ∙ append_assoc (row_line names s) (rows_text ss) y) in
-      let one = marked_apart r.live s.live r.query s.query (rows_text rs ++ x) (rows_text ss ++ y) (h zero r (omega arith)) (k zero s (omega arith)) whole in
-      let others = rows_apart rs ss x y (λ i d l. h (suc i) d (omega (arith, l))) (λ i d l. k (suc i) d (omega (arith, l))) none none_other one.rest in
-      record { front = ap₂ (λ (a : Row) (b : List Row). a ∷ b) one.front others.front; rest = others.rest }
+  rows_apart rs ss x y h k none neither e =
+      let told = ended_lines BeginsARow (row_lines names rs) (row_lines names ss) x y (are_lines rs h) (are_lines ss k) (begin rs) (begin ss) none neither e in
+      record { front = lines_tell (row_line names) numbered_row IsPrintableRow row_told rs ss h k told.front; rest = told.rest }
+    where
+      are_lines : (rows : List Row) → AllPrintable rows → All IsLine (row_lines names rows)
+      are_lines rows h = All-map IsLine (row_line names) rows (λ i d b. row_is_line _ (h i d b))
+
+      begin : (rows : List Row) → All (IsBeginning BeginsARow) (row_lines names rows)
+      begin rows = All-map (IsBeginning BeginsARow) (row_line names) rows (λ i d b. begins_a_row (get_or rows i d))
 
   -- ---- a cut at the budget
 

@@ -1,6 +1,8 @@
 pub mod Lines
 mod Spelled
 mod ReadBack
+mod LineFeeds
+mod ToldLines
 pub mod Unions
 pub mod CutTexts
 pub mod InputNames

@@ -280,7 +280,7 @@ begins_otherwise c t x y other h e =
 in_range_digit : (c : ℕ) → 48 ≤ c → c ≤ 57 → is_digit c ≡ true
 in_range_digit c h k = grind (arith, nat_tests)
 
-digits_run : (ds : List ℕ) → AllDigits 10 ds → list_all is_digit ds ≡ true
+pub digits_run : (ds : List ℕ) → AllDigits 10 ds → list_all is_digit ds ≡ true
 digits_run [] h = refl
 digits_run (c ∷ cs) h =
     let range = digit_at (c ∷ cs) 0 h (omega arith) in

@@ -1,8 +1,8 @@
 -- The finished text is read back.
-use Rattle.std.proofs.Common.{◌≡◌, ℕ, zero, suc, ◌+◌, ◌<◌, ◌≤◌, ◌^◌, Bool, true, false, cond, not, List, [], ◌∷◌, ◌++◌, length, map, refl, sym, ap, ap₂, ◌∙◌, append_assoc, arith, All, nat_eq, flat_map}
+use Rattle.std.proofs.Common.{◌≡◌, ℕ, zero, suc, ◌+◌, ◌<◌, ◌≤◌, ◌^◌, Bool, true, false, cond, not, List, [], ◌∷◌, ◌++◌, length, map, refl, sym, ap, ◌∙◌, subst, append_assoc, arith, All, nat_eq, flat_map}
 use Rattle.std.specs.Prelude.{codes, decimal}
 use Rattle.std.specs.List.{position_or_len}
-use Rattle.std.proofs.lemmas.List.{append_cancel_left, append-nil}
+use Rattle.std.proofs.lemmas.List.{append_cancel_left, append-nil, map-id}
 use Rattle.std.proofs.lemmas.List.Concat.{flat_map-append}
 use Rattle.std.proofs.lemmas.List.Elements.{All-map}
 use Rattle.ucq_terms.specs.declared.Term.{Term}
@@ -14,8 +14,10 @@ use Rattle.ucq_terms.specs.Equality.{number_in}
 use Rattle.ucq_eval.specs.Tuples.{tuple_text}
 use Rattle.ucq_print.specs.Texts.{line_feed, term_text, terms_text, query_text, query_line, lines_text, count_line, finished_lines, finished_text, tuple_line, answer_count_line, answer_lines, answered_text}
 use Rattle.ucq_chase.specs.Names.{IsHeldTerm, IsHeldAtom}
-use Rattle.ucq_print.specs.Laws.{IsPrintable, AreReadable, ArePrintable, ArePrintableTuples}
+use Rattle.ucq_print.specs.Laws.{IsLine, IsPrintable, AreReadable, ArePrintable, ArePrintableTuples}
 use Rattle.ucq_print.proofs.Spelled.{AreOne, decimals_apart, tails}
+use Rattle.ucq_print.proofs.LineFeeds.{IsSingle, is_told, single_both, single_query, single_run, single_terms}
+use Rattle.ucq_print.proofs.ToldLines.{counted_elements}
 use Rattle.ucq_print.proofs.ReadBack.{IsPrintedTerm, IsPrintedAtom, IsPrinted, numbered_apart, terms_apart}
 
 -- a place is at most the length
@@ -48,20 +50,19 @@ module _ (names : List (List ℕ)) (readable : AreReadable names) where
   abbrev lines : List Query → List ℕ
   lines union = lines_text (map (query_line names) union)
 
-  line_shape : (q : Query) (rest : List ℕ) → query_line names q ++ rest ≡ query_text names q ++ 10 ∷ rest
-  line_shape q rest = append_assoc (query_text names q) line_feed rest
+  pub query_is_single : (q : Query) → IsPrintable names q → IsSingle (query_text names q)
+  query_is_single q h = single_query names readable (numbered_query q) (printed_query names q h)
+
+  query_is_line : (q : Query) → IsPrintable names q → IsLine (query_line names q)
+  query_is_line q h = record { inner = query_text names q; is = refl; single = (query_is_single q h).free }
+
+  -- a query by its line
+  pub query_told : (p q : Query) → IsPrintable names p → IsPrintable names q → query_line names p ≡ query_line names q → numbered_query p ≡ numbered_query q
+  query_told p q h k e = (numbered_apart names readable (numbered_query p) (numbered_query q) line_feed line_feed (printed_query names p h) (printed_query names q k) e).front
 
   lines_apart : (one two : List Query) (x y : List ℕ) → All (IsPrintable names) one → All (IsPrintable names) two → length one ≡ length two → lines one ++ x ≡ lines two ++ y →
       AreOne (map numbered_query one) (map numbered_query two) x y
-  lines_apart [] [] x y h k l e = record { front = refl; rest = e }
-  lines_apart [] (q ∷ qs) x y h k l e = absurd (omega arith)
-  lines_apart (p ∷ ps) [] x y h k l e = absurd (omega arith)
-  lines_apart (p ∷ ps) (q ∷ qs) x y h k l e =
-      let whole : query_text names p ++ 10 ∷ (lines ps ++ x) ≡ query_text names q ++ 10 ∷ (lines qs ++ y) =
-      sym (line_shape p (lines ps ++ x)) ∙ (sym (append_assoc (query_line names p) (lines ps) x) ∙ (e ∙ (append_assoc (query_line names q) (lines qs) y ∙ line_shape q (lines qs ++ y)))) in
-      let one = numbered_apart names readable (numbered_query p) (numbered_query q) (10 ∷ (lines ps ++ x)) (10 ∷ (lines qs ++ y)) (printed_query names p (h zero p (omega arith))) (printed_query names q (k zero q (omega arith))) whole in
-      let others = lines_apart ps qs x y (λ i d l. h (suc i) d (omega (arith, l))) (λ i d l. k (suc i) d (omega (arith, l))) (omega (arith, l)) (tails one.rest) in
-      record { front = ap₂ (λ (a : Query) (b : List Query). a ∷ b) one.front others.front; rest = others.rest }
+  lines_apart one two x y h k n e = counted_elements (query_line names) numbered_query (IsPrintable names) query_is_line query_told one two x y h k n e
 
   finished_shape : (union : List Query) (x : List ℕ) → finished_text names union ++ x ≡ codes "% finished\n" ++ (codes "% queries " ++ (decimal (length union) ++ 10 ∷ (lines union ++ x)))
   finished_shape union x =
@@ -110,23 +111,24 @@ module _ (names : List (List ℕ)) (readable : AreReadable names) where
   abbrev tuple_lines : List (List ℕ) → List ℕ
   tuple_lines tuples = lines_text (map (tuple_line names) tuples)
 
-  tuple_shape : (t rest : List ℕ) → tuple_line names t ++ rest ≡ codes "% " ++ (tuple_text names t ++ 10 ∷ rest)
-  tuple_shape t rest = append_assoc (codes "% " ++ tuple_text names t) line_feed rest ∙ append_assoc (codes "% ") (tuple_text names t) (10 ∷ rest)
+  tuple_is_line : (tuple : List ℕ) → All (λ c. c < length names) tuple → IsLine (tuple_line names tuple)
+  tuple_is_line tuple h =
+      let text : IsSingle (tuple_text names tuple) = subst IsSingle (sym (tuple_is tuple)) (single_terms names readable (map Constant tuple) (constants_printed tuple h)) in
+      record { inner = codes "% " ++ tuple_text names tuple; is = refl; single = (single_both (codes "% ") (tuple_text names tuple) (single_run is_told (codes "% ") refl refl) text).free }
+
+  -- a tuple by its line
+  tuple_told : (t u : List ℕ) → All (λ c. c < length names) t → All (λ c. c < length names) u → tuple_line names t ≡ tuple_line names u → t ≡ u
+  tuple_told t u h k e =
+      let whole =
+      append_cancel_left (codes "% ") (tuple_text names t ++ line_feed) (tuple_text names u ++ line_feed)
+      (sym (append_assoc (codes "% ") (tuple_text names t) line_feed) ∙ (e ∙ append_assoc (codes "% ") (tuple_text names u) line_feed)) in
+      (tuple_apart t u line_feed line_feed h k whole).front
 
   tuples_apart : (one two : List (List ℕ)) (x y : List ℕ) → All (All (λ c. c < length names)) one → All (All (λ c. c < length names)) two → length one ≡ length two →
       tuple_lines one ++ x ≡ tuple_lines two ++ y → AreOne one two x y
-  tuples_apart [] [] x y h k l e = record { front = refl; rest = e }
-  tuples_apart [] (u ∷ us) x y h k l e = absurd (omega arith)
-  tuples_apart (t ∷ ts) [] x y h k l e = absurd (omega arith)
-  tuples_apart (t ∷ ts) (u ∷ us) x y h k l e =
-      let joined : tuple_line names t ++ (tuple_lines ts ++ x) ≡ tuple_line names u ++ (tuple_lines us ++ y) =
-      sym (append_assoc (tuple_line names t) (tuple_lines ts) x) ∙ (e ∙ append_assoc (tuple_line names u) (tuple_lines us) y) in
-      let whole =
-      append_cancel_left (codes "% ") (tuple_text names t ++ 10 ∷ (tuple_lines ts ++ x)) (tuple_text names u ++ 10 ∷ (tuple_lines us ++ y))
-      (sym (tuple_shape t (tuple_lines ts ++ x)) ∙ (joined ∙ tuple_shape u (tuple_lines us ++ y))) in
-      let one = tuple_apart t u (10 ∷ (tuple_lines ts ++ x)) (10 ∷ (tuple_lines us ++ y)) (h zero t (omega arith)) (k zero u (omega arith)) whole in
-      let others = tuples_apart ts us x y (λ i d l. h (suc i) d (omega (arith, l))) (λ i d l. k (suc i) d (omega (arith, l))) (omega (arith, l)) (tails one.rest) in
-      record { front = ap₂ (λ (a : List ℕ) (b : List (List ℕ)). a ∷ b) one.front others.front; rest = others.rest }
+  tuples_apart one two x y h k n e =
+      let told = counted_elements (tuple_line names) (λ t. t) (All (λ c. c < length names)) tuple_is_line tuple_told one two x y h k n e in
+      record { front = sym (map-id one) ∙ (told.front ∙ map-id two); rest = told.rest }
 
   answers_shape : (tuples : List (List ℕ)) (x : List ℕ) → lines_text (answer_lines names tuples) ++ x ≡ codes "% answers " ++ (decimal (length tuples) ++ 10 ∷ (tuple_lines tuples ++ x))
   answers_shape tuples x =

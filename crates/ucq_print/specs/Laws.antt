@@ -1,5 +1,5 @@
 -- What a printed text tells of its union.
-use Rattle.std.specs.Prelude.{◌≡◌, ◌≢◌, ◌<◌, ◌^◌, ◌⊎◌, ◌++◌, ℕ, List, length, map, All, AllPairs, codes}
+use Rattle.std.specs.Prelude.{◌≡◌, ◌≢◌, ◌<◌, ◌^◌, ◌⊎◌, ◌++◌, ℕ, List, length, map, All, AllPairs, Contains, codes}
 use Rattle.ucq_terms.specs.Syntax.{Query}
 use Rattle.ucq_terms.specs.Query.{IsStored}
 use Rattle.ucq_terms.specs.Numbering.{query_order, numbered_query}
@@ -9,7 +9,46 @@ use Rattle.ucq_lexer.specs.Spelling.{IsSpelled}
 use Rattle.ucq_chase.specs.Names.{AreHeldAtoms, IsHeldQuery, IsHeldProblem}
 use Rattle.ucq_reader.specs.Input.{InputValue, IsInput, IsNumbered}
 use Rattle.ucq_reader.specs.Made.{made}
-use Rattle.ucq_print.specs.Texts.{answered_text, finished_text, rows_cut_text, wide_cut_text}
+use Rattle.ucq_print.specs.Texts.{answered_text, finished_text, line_feed, lines_text, rows_cut_text, wide_cut_text}
+
+-- ---- lines
+
+-- bytes that end with a line feed, and hold no other
+pub record IsLine (line : List ℕ) : Type 0 where
+  pub inner : List ℕ
+  pub is : line ≡ inner ++ line_feed
+  pub single : ¬ Contains inner 10
+
+-- the longer list has the lines of the shorter one and then more, with which what follows the shorter one begins
+pub record GoesOn (shorter : List (List ℕ)) (follows : List ℕ) (longer : List (List ℕ)) (other : List ℕ) : Type 0 where
+  pub more : List (List ℕ)
+  pub lines : longer ≡ shorter ++ more
+  pub rests : follows ≡ lines_text more ++ other
+
+-- Two texts that begin with lines are equal only where one of the two lists of lines goes on the other.
+abbrev pub LinesAreTold : Type 0
+LinesAreTold =
+    (one two : List (List ℕ)) (rest_one rest_two : List ℕ) →
+    All IsLine one →
+    All IsLine two →
+    lines_text one ++ rest_one ≡ lines_text two ++ rest_two →
+    GoesOn one rest_one two rest_two ⊎ GoesOn two rest_two one rest_one
+
+-- So where there are as many lines in both, they are the same lines, and so is what follows.
+abbrev pub CountedLinesAreTold : Type 0
+CountedLinesAreTold =
+    (one two : List (List ℕ)) (rest_one rest_two : List ℕ) →
+    All IsLine one →
+    All IsLine two →
+    length one ≡ length two →
+    lines_text one ++ rest_one ≡ lines_text two ++ rest_two →
+    (one ≡ two) × (rest_one ≡ rest_two)
+
+-- And where nothing follows, they are the same lines.
+abbrev pub WholeLinesAreTold : Type 0
+WholeLinesAreTold = (one two : List (List ℕ)) → All IsLine one → All IsLine two → lines_text one ≡ lines_text two → one ≡ two
+
+-- ---- unions
 
 -- the spelling of an Identifier, an Iri, an Integer or a Text
 abbrev pub IsNameText : List ℕ → Type 0

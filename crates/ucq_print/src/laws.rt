@@ -1,5 +1,12 @@
 //! Laws of the texts, each the contract of a function that does nothing.
-ghost use Rattle.ucq_print.specs.Laws.{AnsweredTextTellsUnion, BeginningTellsUnion, FinishedTextTellsUnion, InputNamesAreHeld, InputNamesAreReadable, MadeNamesAreHeld, RowsCutTextTellsRows, StoredArePrintable, TextsDiffer, WideCutTextTellsRows};
+ghost use Rattle.ucq_print.specs.Laws.{AnsweredTextTellsUnion, BeginningTellsUnion, CountedLinesAreTold, FinishedTextTellsUnion, InputNamesAreHeld, InputNamesAreReadable, LinesAreTold, MadeNamesAreHeld, RowsCutTextTellsRows, StoredArePrintable, TextsDiffer, WholeLinesAreTold, WideCutTextTellsRows};
+
+/// Lines without inner line feeds are told from their join, and what follows too.
+pub fn lines_are_told()
+    ensures told { LinesAreTold }
+    ensures counted { CountedLinesAreTold }
+    ensures whole { WholeLinesAreTold }
+{}
 
 /// The finished text tells the union, up to the variables' names in each query.
 pub fn finished_text_tells_union()
