@@ -27,8 +27,8 @@ fn found_of(alloc: Global, union: &Union, facts: &Facts) -> Result<IndexSet<Vec<
 /// The answers of a union over facts, each with its text: every tuple of constants with which some member maps into the
 /// facts, each once, in byte order of their texts. Unknown values of the facts stand in no tuple.
 ///
-/// Each member is joined atom by atom, next always the atom with the fewest facts by the index. What is held besides the
-/// facts are the tuples and their texts. The only error is want of memory.
+/// Each member is joined atom by atom, next an atom with one fact at most by the index, or else the one with the fewest.
+/// What is held besides the facts are the tuples and their texts. The only error is want of memory.
 pub fn answers_with_texts<'n>(
     alloc: Global,
     union: &Union,

@@ -143,7 +143,7 @@ fn explore(
     branch(bindings, query, facts, places, found)
 }
 
-/// The same, where there is a place. The atom for which the fewest facts are found is sent to each of these in turn.
+/// The same, where there is a place. The atom that is chosen is sent to each of its facts in turn.
 #[cycle(join)]
 fn branch(
     bindings: &mut Bindings,
