@@ -1,4 +1,4 @@
-use Rattle.std.proofs.Common.{◌≡◌, ◌<◌, ◌-◌, ◌++◌, ◌∷◌, [], ℕ, List, length, map, take, drop, get_or, Contains, refl, sym, ap, ap₂, ◌∙◌, subst, arith}
+use Rattle.std.proofs.Common.{◌≡◌, ◌<◌, ◌-◌, ◌++◌, ◌∷◌, [], ℕ, List, length, map, take, drop, get_or, Contains, refl, sym, ap, ◌∙◌, subst, arith}
 use Rattle.std.proofs.lemmas.List.{append-nil, append_assoc, map-append}
 use Rattle.std.proofs.lemmas.Result.{on_ok_weaker}
 use Rattle.ucq_terms.specs.declared.Term.{Term}
@@ -9,7 +9,6 @@ use Rattle.ucq_hom.specs.Bindings.{Bound, IsMatched}
 use Rattle.ucq_hom.specs.Search.{HasLowTerms}
 use Rattle.ucq_hom.proofs.Found.{ArePlaces-rest, HasLowTerms-at}
 use Rattle.ucq_hom.proofs.Homs.{HasLowAtoms-atoms}
-use Rattle.ucq_hom.proofs.Ordered.{ArePlaces-at}
 use Rattle.ucq_facts.specs.Facts.{matching}
 use Rattle.ucq_eval.specs.Join.{Gives, HasUnknown, IsRead, IsUnread, AreReached}
 use Rattle.ucq_eval.proofs.Grown.{IsGrownBy-nothing, IsGrownBy-same}
