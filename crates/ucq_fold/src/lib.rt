@@ -11,4 +11,4 @@ mod shrinking;
 pub use cores::is_core;
 pub use isomorphism::isomorphic;
 pub use normal::normal_form;
-pub use shrinking::shrink;
+pub use shrinking::{may_fold, shrink};

@@ -1,11 +1,11 @@
 //! The shrinking of a query to its core.
 ghost use Rattle.std.specs.Prelude.{◌≡◌, ◌<◌, ◌↔◌, length, remove, true, false};
 ghost use Rattle.ucq_terms.specs.Syntax.{IsSafe};
-ghost use Rattle.ucq_terms.specs.Homomorphism.{IsCoreOf};
+ghost use Rattle.ucq_terms.specs.Homomorphism.{IsCore, IsCoreOf};
 ghost use Rattle.ucq_hom.specs.Space.{IsClear};
 ghost use Rattle.ucq_fold.specs.Parts.{IsPartInOrder, IsTried};
 
-use ucq_hom::{HomSpace, find_without};
+use ucq_hom::{HomSpace, find_without, may_spare};
 use ucq_terms::Query;
 
 /// Takes the atom at the place out if the query maps into itself without it.
@@ -32,4 +32,19 @@ pub fn shrink(space: &mut HomSpace, query: &mut Query)
         drop_spare(space, query, place);
     }
     space.clear();
+}
+
+/// Whether some atom of the query may go by itself to another one. Else the query is a core, and this is told without a
+/// search. Leaves the space as after a false answer.
+pub fn may_fold(space: &mut HomSpace, query: &Query) -> bool
+    ensures core { result ≡ false → IsCore query.now }
+    ensures clear { IsClear space.new }
+{
+    space.clear();
+    for place in 0..query.atoms().len() as u32 {
+        if may_spare(space, query, place) {
+            return true;
+        }
+    }
+    false
 }

@@ -16,4 +16,4 @@ mod space;
 
 pub use order::{number, order_atoms};
 pub use signature::Signature;
-pub use space::{HomSpace, covers, find_without};
+pub use space::{HomSpace, covers, find_without, may_spare};

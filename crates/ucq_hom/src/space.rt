@@ -158,6 +158,21 @@ fn has_other_image(bindings: &mut Bindings, levels: &mut [u32], query: &Query, p
     found
 }
 
+/// Whether some map that keeps the answers sends the atom at the place to another one of the query. Where there is none, the
+/// query needs this atom. Leaves the space as after a false answer.
+pub fn may_spare(space: &mut HomSpace, query: &Query, place: u32) -> bool
+    requires { place < length query.now.atoms }
+    ensures none { result ≡ false → MapsInto query.now (remove query.now.atoms place) query.now.answers → ⊥ }
+    ensures clear { IsClear space.new }
+{
+    has_other_image(
+        &mut space.bindings,
+        space.levels.as_mut_slice(),
+        query,
+        place,
+    )
+}
+
 /// Whether a homomorphism leads from the query to itself without the atom at `skip`, with the same answers. If so,
 /// `image_of` tells it.
 pub fn find_without(space: &mut HomSpace, query: &Query, skip: u32) -> bool

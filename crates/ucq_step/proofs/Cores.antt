@@ -1,8 +1,8 @@
 -- Cores that serve for equivalent queries.
 use Rattle.std.proofs.Common.{List, Contains, sym, subst, inl, inr, ⊎_elim}
 use Rattle.ucq_terms.specs.Syntax.{Query}
-use Rattle.ucq_terms.specs.Homomorphism.{IsCoreOf, IsEquivalent, AreIsomorphic}
-use Rattle.ucq_terms.proofs.Maps.{Covers-trans}
+use Rattle.ucq_terms.specs.Homomorphism.{IsCore, IsCoreOf, IsEquivalent, AreIsomorphic}
+use Rattle.ucq_terms.proofs.Maps.{Covers-refl, Covers-trans}
 use Rattle.ucq_fold.proofs.Renamings.{Covers-forth, Covers-back}
 use Rattle.ucq_step.specs.Kept.{HasKept, HasEquivalent, AreMore, HasCore, HaveCores, HasAddedCore}
 
@@ -27,6 +27,10 @@ HasCore-more cores more query f h = record { core = h.core; among = f h.core h.a
 
 HasCore-equivalent : (cores : List Query) (a b : Query) → IsEquivalent a b → HasCore cores b → HasCore cores a
 HasCore-equivalent cores a b e h = record { core = h.core; among = h.among; shrunk = IsCoreOf-equivalent a b h.core e h.shrunk }
+
+-- a query that is a core is its own
+pub IsCoreOf-itself : (query : Query) → IsCore query → IsCoreOf query query
+IsCoreOf-itself query c = record { core = c; equivalent = record { forth = Covers-refl query; back = Covers-refl query } }
 
 -- A form is kept, which is the query but for names and order.
 pub AreMore-kept : (before after : List Query) (query form : Query) → AreIsomorphic query form → HasKept before form after → AreMore before query after

@@ -4,7 +4,8 @@
 //! rules*, Semantic Web 6, 2015.
 #![tactic(auto)]
 
-ghost use Rattle.std.specs.Prelude.{◌≡◌, false, OnOk, IfOk};
+ghost use Rattle.std.specs.Prelude.{◌≡◌, true, false, OnOk, IfOk};
+ghost use Rattle.ucq_terms.specs.Homomorphism.{IsCoreOf};
 ghost use Rattle.ucq_hom.specs.Space.{IsClear};
 ghost use Rattle.ucq_step.specs.Kept.{AreMore, HasEquivalent, HaveCores, HasAddedCore};
 ghost use Rattle.ucq_step.specs.Steps.{IsStepResult};
@@ -16,7 +17,7 @@ mod rewriting;
 use kept::Kept;
 use rewriting::rewrite;
 use std::alloc::{AllocError, AllocFailed, Global};
-use ucq_fold::{normal_form, shrink};
+use ucq_fold::{may_fold, normal_form, shrink};
 use ucq_hom::HomSpace;
 use ucq_join::Joins;
 use ucq_terms::{NoMemory, Query, Rule};
@@ -81,8 +82,33 @@ fn is_new(
     Ok(is_new)
 }
 
+/// Folds the rewriting to its core, unless the forms show that an earlier one is the same but for names and order. Tells
+/// whether they don't. No form is made of a rewriting none of whose atoms may go to another, since it is a core as it is.
+fn fold_new(
+    alloc: Global,
+    space: &mut HomSpace,
+    forms: &mut Kept,
+    rewriting: &mut Query,
+    is_only: bool,
+) -> Result<bool, NoMemory>
+    requires clear { IsClear space.old }
+    ensures more { OnOk result (AreMore forms.old rewriting.old forms.new) }
+    ensures core { IfOk result (λ is_new. is_new ≡ true → IsCoreOf rewriting.old rewriting.new) }
+    ensures held { IfOk result (λ is_new. is_new ≡ false → HasEquivalent forms.old rewriting.old) }
+    ensures clear { IsClear space.new }
+{
+    if !may_fold(space, rewriting) {
+        return Ok(true);
+    }
+    if !is_new(alloc, forms, rewriting, is_only)? {
+        return Ok(false);
+    }
+    shrink(space, rewriting);
+    Ok(true)
+}
+
 /// Adds the core of the rewriting to the cores. Where the forms show that an earlier rewriting is the same but for names
-/// and order, the core of that one is its core too, and nothing is folded.
+/// and order, the core of that one is its core too.
 fn add_core(
     alloc: Global,
     space: &mut HomSpace,
@@ -97,15 +123,14 @@ fn add_core(
     ensures added { OnOk result (HasAddedCore cores.old rewriting cores.new) }
     ensures clear { IsClear space.new }
 {
-    if !is_new(alloc, forms, &rewriting, is_only)? {
+    if !fold_new(alloc, space, forms, &mut rewriting, is_only)? {
         return Ok(());
     }
-    shrink(space, &mut rewriting);
     let _ = cores.keep(rewriting)?;
     Ok(())
 }
 
-/// The cores of the query's rewritings with the rule, one for each aggregate of single pieces, and none of them twice.
+/// The cores of the query's rewritings with the rule by all aggregates of single pieces, none of them twice.
 ///
 /// `StepFault::Wide` comes exactly where some one-step rewriting has more than `ATOMS` different atoms, and tells the width
 /// of one. The space is left as after a false answer, whatever the result.
