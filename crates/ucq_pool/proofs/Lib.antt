@@ -4,6 +4,7 @@ pub mod Found
 pub mod Sums
 pub mod Work
 pub mod Rising
+pub mod Published
 pub mod Rested
 pub mod Explored
 pub mod Advanced

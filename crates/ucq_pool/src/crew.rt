@@ -8,8 +8,10 @@ ghost use Rattle.ucq_pool.specs.Shared.{IsAtWork, IsStage};
 
 use crate::indexed::IndexedProblem;
 use crate::solo::{alone, go_on};
+use crate::task::{Task, TaskStore};
 use crate::worker::{Round, Worker};
 use std::alloc::Global;
+use std::marker::Brand;
 use std::sync::{Mutex, Wait};
 use std::thread;
 use std::thread::Threads;
@@ -38,11 +40,17 @@ struct Job<'l> {
     seat: Seat,
 }
 
-/// What a round leaves: the store as its lock held it last, how many rows were drawn, and whether memory was wanting.
+/// The workers, and how many rows they drew from boards.
+#[derive(Drop)]
+struct Crew<'l> {
+    workers: Vec<Worker<'l>>,
+    drawn: u64,
+}
+
+/// What a round leaves: the store as its lock held it last, and whether memory was wanting.
 #[derive(Drop)]
 struct Rested<'p> {
     store: Store<'p>,
-    drawn: u32,
     is_wanting: bool,
 }
 
@@ -104,50 +112,63 @@ pub fn rounds_noted<'p, R: Threads + Wait + Sync, G: Gate + Sync>(
     let indexed = IndexedProblem::new(alloc, problem)?;
     let log = Log::new(alloc)?;
     let mut crew = hire(alloc, workers, &log)?;
-    let mut drawn: u64 = 0;
     for _ in rt.forever() {
-        let claims = claim_open(alloc, &mut store)?;
-        let rested = round(
-            rt,
-            alloc,
-            &indexed,
-            store,
-            claims.as_slice(),
-            &mut crew,
-            gate,
-        )?;
-        drawn = drawn.saturating_add(u64::from(rested.drawn));
-        match after_round(alloc, &mut space, &indexed, budget, rested)? {
+        match explore_level(rt, alloc, &mut space, &indexed, store, &mut crew, gate)? {
             Stage::Going(going) => store = going,
             Stage::Ended(ended) => {
                 // A reader tells that the store is lawful.
                 let _ = ended.rows();
-                let seen = seen_by(crew.as_slice());
-                return Ok((ended, Note { drawn, seen }));
+                return Ok((ended, note_of(&crew)));
             }
         }
     }
     unreachable!()
 }
 
-/// So many workers with this log.
-fn hire<'l>(alloc: Global, workers: u32, log: &'l Log) -> Result<Vec<Worker<'l>>, NoMemory>
-    ensures { IfOk result (λ crew. vec_len crew ≡ workers) }
+/// Claims the open rows, and lets the crew explore them in a round.
+fn explore_level<'p, 'l, R: Threads + Wait + Sync, G: Gate + Sync>(
+    rt: &R,
+    alloc: Global,
+    space: &mut HomSpace,
+    problem: &IndexedProblem<'p>,
+    store: Store<'p>,
+    crew: &mut Crew<'l>,
+    gate: &G,
+) -> Result<Stage<'p>, NoMemory>
+    requires problem { store.problem ≡ problem.now }
+    requires some { 0 < store.budget }
+    requires small { store.budget ≤ 65536 }
+    requires clear { IsClear space.old }
+    ensures stage { IfOk result (IsStage problem.now store.entry.budget) }
+    ensures clear { IsClear space.new }
 {
-    let mut crew = Vec::with_capacity(alloc, workers as usize)?;
-    for number in 0..workers {
-        crew.push(Worker::new(alloc, number, log)?)?;
-    }
-    Ok(crew)
+    let mut store = store;
+    let claims = claim_open(alloc, &mut store)?;
+    let rested = round::<Brand, _, _>(rt, alloc, problem, store, claims.as_slice(), crew, gate)?;
+    after_round(alloc, space, problem, rested)
 }
 
-/// How many candidates the workers gave with evidence.
-fn seen_by(crew: &[Worker]) -> u64 {
+/// So many workers with this log.
+fn hire<'l>(alloc: Global, count: u32, log: &'l Log) -> Result<Crew<'l>, NoMemory>
+    ensures { IfOk result (λ crew. vec_len crew.workers ≡ count) }
+{
+    let mut workers = Vec::with_capacity(alloc, count as usize)?;
+    for number in 0..count {
+        workers.push(Worker::new(alloc, number, log)?)?;
+    }
+    Ok(Crew { workers, drawn: 0 })
+}
+
+/// What the workers did.
+fn note_of(crew: &Crew) -> Note {
     let mut seen: u64 = 0;
-    for worker in crew {
+    for worker in &crew.workers {
         seen = seen.saturating_add(worker.seen());
     }
-    seen
+    Note {
+        drawn: crew.drawn,
+        seen,
+    }
 }
 
 /// Claims all open rows, and gives the claims.
@@ -168,24 +189,29 @@ fn claim_open(alloc: Global, store: &mut Store) -> Result<Vec<Claim>, NoMemory>
 
 /// Lets workers explore the claimed rows of the store, each worker in a thread of its own where one can be made, and no more
 /// of them than there are claims.
-fn round<'p, 'l, R: Threads + Wait + Sync, G: Gate + Sync>(
+fn round<'p, 'l, T: Task + Send + Sync, R: Threads + Wait + Sync, G: Gate + Sync>(
     rt: &R,
     alloc: Global,
     problem: &IndexedProblem<'p>,
     store: Store<'p>,
     claims: &[Claim],
-    crew: &mut Vec<Worker<'l>>,
+    crew: &mut Crew<'l>,
     gate: &G,
 ) -> Result<Rested<'p>, NoMemory>
+    requires of_task { problem.now ≡ T.problem }
+    requires problem { store.problem ≡ T.problem }
+    requires budget { store.budget ≡ T.budget }
     requires claims { length claims.now ≤ 65536 }
+    ensures problem { IfOk result (λ r. r.store.problem ≡ T.problem) }
+    ensures budget { IfOk result (λ r. r.store.budget ≡ T.budget) }
 {
-    let team = crew.len().min(claims.len()).min(64);
+    let team = crew.workers.len().min(claims.len()).min(64);
     let (board, mut first) = match Board::new(alloc, claims.len() as u32, team as u32 + 1) {
         Ok(made) => made,
         Err(ucq_board::NoMemory) => return Err(NoMemory),
     };
-    let jobs = seat_team(alloc, &board, &mut first, crew, team)?;
-    let lock = Mutex::new(store);
+    let jobs = seat_team(alloc, &board, &mut first, &mut crew.workers, team)?;
+    let lock: Mutex<TaskStore<'p, T>> = Mutex::new(TaskStore::new(store));
     let round = Round {
         problem,
         store: &lock,
@@ -198,36 +224,31 @@ fn round<'p, 'l, R: Threads + Wait + Sync, G: Gate + Sync>(
         rt,
         jobs,
         &|job: Job| -> Job
-            requires { (shared.now.board.now.rows ≡ length shared.now.claims.now) × IsAtWork shared.now.board.now job.seat }
+            requires { IsAtWork shared.now.board.now job.seat }
             ensures { IsAtWork shared.entry.now.board.now result.seat }
         { work_at(rt, alloc, shared, job) },
     );
-    let store = lock.into_inner();
+    let store = lock.into_inner().into_store();
     let Ok(jobs) = ended else {
         return Ok(Rested {
             store,
-            drawn: 0,
             is_wanting: true,
         });
     };
-    let is_wanting = rise_all(&board, &mut first, crew, jobs)?;
+    let is_wanting = rise_all(&board, &mut first, &mut crew.workers, jobs)?;
     let drawn = board.close(first).drawn();
-    Ok(Rested {
-        store,
-        drawn,
-        is_wanting,
-    })
+    crew.drawn = crew.drawn.saturating_add(u64::from(drawn));
+    Ok(Rested { store, is_wanting })
 }
 
 /// Lets a worker explore what its seat draws.
-fn work_at<'r, 'p, 'l, R: Wait, G: Gate>(
+fn work_at<'r, 'p, 'l, R: Wait, T: Task, G: Gate>(
     rt: &R,
     alloc: Global,
-    round: &Round<'r, 'p, G>,
+    round: &Round<'r, 'p, T, G>,
     job: Job<'l>,
 ) -> Job<'l>
-    requires rows { round.now.board.now.rows ≡ length round.now.claims.now }
-    requires seat { IsAtWork round.now.board.now job.seat }
+    requires { IsAtWork round.now.board.now job.seat }
     ensures { IsAtWork round.now.board.now result.seat }
 {
     let Job {
@@ -238,12 +259,12 @@ fn work_at<'r, 'p, 'l, R: Wait, G: Gate>(
     Job { worker, seat }
 }
 
-/// Seats so many workers of the crew at the board, or all where there are fewer.
+/// Seats so many of the workers at the board, or all where there are fewer.
 fn seat_team<'l>(
     alloc: Global,
     board: &Board,
     first: &mut Seat,
-    crew: &mut Vec<Worker<'l>>,
+    workers: &mut Vec<Worker<'l>>,
     team: usize,
 ) -> Result<Vec<Job<'l>>, NoMemory>
     requires board { IsOf board.now first.old }
@@ -254,7 +275,7 @@ fn seat_team<'l>(
 {
     let mut jobs = Vec::with_capacity(alloc, team)?;
     for _ in 0..team {
-        let Some(worker) = crew.pop() else {
+        let Some(worker) = workers.pop() else {
             break;
         };
         let seat = board.split(first);
@@ -263,11 +284,11 @@ fn seat_team<'l>(
     Ok(jobs)
 }
 
-/// Joins the seats into the first, and gives the workers back to the crew. Answers whether one of them wanted memory.
+/// Joins the seats into the first, and gives the workers back. Answers whether one of them wanted memory.
 fn rise_all<'l>(
     board: &Board,
     first: &mut Seat,
-    crew: &mut Vec<Worker<'l>>,
+    workers: &mut Vec<Worker<'l>>,
     jobs: Vec<Job<'l>>,
 ) -> Result<bool, NoMemory>
     requires board { IsOf board.now first.old }
@@ -280,36 +301,32 @@ fn rise_all<'l>(
         let Job { worker, seat } = job;
         is_wanting = is_wanting || worker.wants_memory();
         board.join(first, seat);
-        crew.push(worker)?;
+        workers.push(worker)?;
     }
     Ok(is_wanting)
 }
 
-/// What the lock held last may be any store: where it isn't of this problem and budget, or too many claims were given, the
-/// problem is solved anew, alone. Else rows that are still claimed are opened, and the level is raised where none is open.
-/// Where memory was wanting the caller goes on alone.
+/// Rows that are still claimed are opened, and the level is raised where none is open. Where memory was wanting the caller goes on alone, and where too many claims were
+/// given, which no run lives to see, the problem is solved anew, alone.
 fn after_round<'p>(
     alloc: Global,
     space: &mut HomSpace,
     problem: &IndexedProblem<'p>,
-    budget: u32,
     rested: Rested<'p>,
 ) -> Result<Stage<'p>, NoMemory>
-    requires some { 0 < budget }
-    requires small { budget ≤ 65536 }
+    requires problem { rested.store.problem ≡ problem.now }
+    requires some { 0 < rested.store.budget }
+    requires small { rested.store.budget ≤ 65536 }
     requires clear { IsClear space.old }
-    ensures stage { IfOk result (IsStage problem.now budget) }
+    ensures stage { IfOk result (IsStage problem.now rested.entry.store.budget) }
     ensures clear { IsClear space.new }
 {
     let Rested {
         mut store,
-        drawn: _,
         is_wanting,
     } = rested;
-    if store.budget() != budget
-        || store.claims() >= CLAIMS
-        || !store.problem().same(problem.problem())
-    {
+    if store.claims() >= CLAIMS {
+        let budget = store.budget();
         return Ok(Stage::Ended(alone(alloc, space, problem.problem(), budget)?));
     }
     store.reopen();

@@ -11,6 +11,7 @@ mod indexed;
 mod own;
 mod rewritings;
 mod solo;
+mod task;
 mod worker;
 
 pub use crew::{Note, rounds, rounds_noted};

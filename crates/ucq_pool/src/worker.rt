@@ -6,24 +6,27 @@ ghost use Rattle.ucq_pool.specs.Shared.{IsAtWork};
 use crate::indexed::IndexedProblem;
 use crate::own::Own;
 use crate::rewritings::{Kept, report_on};
+use crate::task::{Task, TaskStore};
 use std::alloc::Global;
 use std::sync::{Mutex, Wait};
 use ucq_board::{Board, Seat};
 use ucq_hom::HomSpace;
 use ucq_log::Log;
 use ucq_outside::Gate;
-use ucq_store::{Claim, Published, Store};
+use ucq_store::{Claim, Published};
 use ucq_terms::NoMemory;
 
-/// What the workers of a round share: the store behind its lock, the claims of the rows that were open, and a board with a
-/// row for each of these claims.
+/// What the workers of a round share: the task's problem, its store behind a lock, the claims of the rows that were open, and
+/// a board with a row for each of these claims.
 #[derive(Drop)]
-pub(crate) struct Round<'r, 'p, G> {
+pub(crate) struct Round<'r, 'p, T: Task, G> {
     pub problem: &'r IndexedProblem<'p>,
-    pub store: &'r Mutex<Store<'p>>,
+    pub store: &'r Mutex<TaskStore<'p, T>>,
     pub claims: &'r [Claim],
     pub board: &'r Board,
     pub gate: &'r G,
+    ghost of_task: { problem.now ≡ T.problem },
+    ghost rows: { board.now.rows ≡ length claims.now },
 }
 
 /// A worker: its number, the room for its searches, its entries of the log, how many candidates it gave with evidence, and
@@ -62,15 +65,14 @@ impl<'l> Worker<'l> {
 
     /// Explores the rows whose claims its seat draws, until none is left or there is a stop. It stops all where the store is
     /// cut, and where it finds no memory.
-    pub(crate) fn work<'r, 'p, R: Wait, G: Gate>(
+    pub(crate) fn work<'r, 'p, R: Wait, T: Task, G: Gate>(
         &mut self,
         rt: &R,
         alloc: Global,
-        round: &Round<'r, 'p, G>,
+        round: &Round<'r, 'p, T, G>,
         seat: &mut Seat,
     )
-        requires rows { round.now.board.now.rows ≡ length round.now.claims.now }
-        requires seat { IsAtWork round.now.board.now seat.old }
+        requires { IsAtWork round.now.board.now seat.old }
         ensures { IsAtWork round.now.board.now seat.new }
     {
         self.space.clear();
@@ -97,18 +99,19 @@ impl<'l> Worker<'l> {
 
     /// Copies the query of a claimed row, rewrites it outside the lock, passes the gate, publishes what was found, and adds
     /// the cores that were placed to the log. Where memory is wanting the claim is given back.
-    fn explore<'r, 'p, R: Wait, G: Gate>(
+    fn explore<'r, 'p, R: Wait, T: Task, G: Gate>(
         &mut self,
         rt: &R,
         alloc: Global,
-        round: &Round<'r, 'p, G>,
+        round: &Round<'r, 'p, T, G>,
         claim: Claim,
     ) -> Result<Published, NoMemory>
         requires clear { IsClear self.old.space }
         ensures clear { IsClear self.new.space }
     {
         let query = {
-            let store = round.store.lock(rt);
+            let held = round.store.lock(rt);
+            let store = held.store();
             if claim.row >= store.rows() {
                 return Ok(Published::Foreign);
             }
@@ -119,16 +122,15 @@ impl<'l> Worker<'l> {
             Err(NoMemory) => Err(NoMemory),
         };
         let Ok((mut report, kept)) = found else {
-            let mut store = round.store.lock(rt);
-            let _ = store.release(claim);
+            round.store.lock(rt).release(claim);
             return Err(NoMemory);
         };
         let Kept { copies, seen } = kept;
         self.seen = self.seen.saturating_add(seen);
         round.gate.pass(self.number, claim.row);
         let published = {
-            let mut store = round.store.lock(rt);
-            store.publish(&mut self.space, claim, &mut report)
+            let mut held = round.store.lock(rt);
+            held.publish(&mut self.space, claim, &mut report)
         };
         if let Published::Taken = published {
             self.own.add_placed(rt, &report, copies);

@@ -2,4 +2,4 @@ use Rattle.std.proofs.Common.{◌≡◌, vec_len}
 use Rattle.ucq_pool.proofs.crew.hire.Given as goal
 
 abbrev pub invariant-loop-number : goal.invariant-loop-number
-invariant-loop-number l = vec_len l.crew ≡ l.number
+invariant-loop-number l = vec_len l.workers ≡ l.number

@@ -5,7 +5,7 @@ use Rattle.ucq_pool.proofs.crew.round.Goals as goal
 
 pub map_vec-ended-requires-after_bounds : goal.map_vec-ended-requires-after_bounds
 map_vec-ended-requires-after_bounds g c κs within = λ i x l e.
-    (c.in-Ok.ensures.board.0, subst (λ (job : Job). IsAtWork c.in-Ok.made.0 job.seat) (sym e) (c.in_ok-jobs.ensures.jobs i x l))
+    subst (λ (job : Job). IsAtWork c.in-Ok.made.0 job.seat) (sym e) (c.in_ok-jobs.ensures.jobs i x l)
 
 pub rise_all-requires-clause-jobs : goal.rise_all-requires-clause-jobs
 rise_all-requires-clause-jobs g c = λ k d l.

@@ -6,5 +6,5 @@ use Rattle.ucq_pool.proofs.crew.rounds_noted.Goals as goal
 
 pub returns-in-Ended-clause-enough : goal.returns-in-Ended-clause-enough
 returns-in-Ended-clause-enough g c =
-    let stage = subst (λ (s : Stage). IsStage c.in_ok-indexed.indexed c.args.budget s) c.in-Ended.is c.in_ok-going.ensures.stage in
-    finishes c.enough_budget.ensures c.in-Ended.ended c.args.problem.now c.args.budget c.rows.ensures.lawful (stage.0 ∙ c.in_ok-indexed.ensures) stage.1 stage.2
+    let stage = subst (λ (s : Stage). IsStage c.in_ok-indexed.indexed c.loop.store.budget s) c.in-Ended.is c.in_ok-going.ensures.stage in
+    finishes c.enough_budget.ensures c.in-Ended.ended c.args.problem.now c.args.budget c.rows.ensures.lawful (stage.0 ∙ c.in_ok-indexed.ensures) (stage.1 ∙ c.loop.invariant.3) stage.2
