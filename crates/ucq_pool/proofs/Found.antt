@@ -9,8 +9,8 @@ use Rattle.ucq_terms.specs.Unifier.{KeepsPredicate}
 use Rattle.ucq_terms.specs.Rewriting.{Member, rule_at, IsMember, IsOneStepWith}
 use Rattle.ucq_terms.proofs.Lists.{All-from_contains, Any-from_contains, Any-contains, first_element}
 use Rattle.ucq_store.specs.Candidates.{Candidate, HoldsCore, HoldCores}
-use Rattle.ucq_store.specs.Lawful.{IsCoreOfOneStep}
-use Rattle.ucq_store.specs.Reports.{AreFound, HasWideStep}
+use Rattle.ucq_store.specs.Lawful.{HasWideStep, IsCoreOfOneStep}
+use Rattle.ucq_store.specs.Reports.{AreFound}
 use Rattle.ucq_store.proofs.Holding.{hold_append, hold_push}
 use Rattle.ucq_step.specs.Steps.{IsCoreOfStep, IsCoveredBy, AreSteps, IsTooWide}
 use Rattle.ucq_pool.specs.ByHead.{AreRelevant}

@@ -5,8 +5,8 @@ use Rattle.ucq_terms.specs.Homomorphism.{Covers}
 use Rattle.ucq_terms.specs.Rewriting.{IsOneStepWith}
 use Rattle.std.specs.Global.{Vec}
 use Rattle.ucq_store.specs.Candidates.{Candidate, HoldCores}
-use Rattle.ucq_store.specs.Lawful.{IsCoreOfOneStep}
-use Rattle.ucq_store.specs.Reports.{Report, AreFound, HasWideStep}
+use Rattle.ucq_store.specs.Lawful.{HasWideStep, IsCoreOfOneStep}
+use Rattle.ucq_store.specs.Reports.{Report, AreFound}
 use Rattle.ucq_pool.specs.declared.rewritings.Fault.{Fault}
 use Rattle.ucq_pool.specs.declared.rewritings.Fault.TheVariants.{Wide, Memory}
 

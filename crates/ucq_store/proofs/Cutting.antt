@@ -41,8 +41,8 @@ cut_is_lawful s cut why law =
     }
   where
     same_cause : (cut : Cut) → HasCause s (Some cut) → HasCause (with_cut s cut) (Some cut)
-    same_cause (Rows left) h = record { full = h.full; sound_core = h.sound_core; row = h.row; row_of = h.row_of; derived = h.derived; uncovered = h.uncovered }
-    same_cause (Wide row rule count) h = record { row_of = h.row_of; result = h.result; step = h.step; width = h.width; wide = h.wide }
+    same_cause (Rows left) h = h
+    same_cause (Wide row rule count) h = h
 
 cut_keeps : (s : Store) (cut : Cut) → (IsLawful s → HasCause s (Some cut)) → Keeps s (with_cut s cut)
 cut_keeps s cut why = record {
@@ -61,7 +61,7 @@ cut_keeps s cut why = record {
 }
 
 -- a candidate that no live row covers is left over where there is no room
-pub left_over : (s : Store) (row : ℕ) (core : Query) → IsLawful s → IsCandidate s row core → ¬ SomeLiveCovers s.rows core → length s.rows ≡ s.budget → IsLeftOver s core
+pub left_over : (s : Store) (row : ℕ) (core : Query) → IsLawful s → IsCandidate s row core → ¬ SomeLiveCovers s.rows core → length s.rows ≡ s.budget → IsLeftOver s.problem s.budget s.rows core
 left_over s row core law candidate fresh full = record {
   full = full;
   sound_core = candidate.sound_core;

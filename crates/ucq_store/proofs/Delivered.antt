@@ -152,7 +152,7 @@ module _ (s : Store) (row : ℕ) (before : List Candidate) (offered : AreOffered
         held_rest = n.hold;
         places = h.places;
         takes = subst (λ (t : Store). Takes s h.seen h.places t) (sym same) h.takes;
-        left_over = subst (λ (t : Store). IsLeftOver t left) (sym same) over;
+        left_over = subst (λ (t : Store). IsLeftOver t.problem t.budget t.rows left) (sym same) over;
         are = written c ∙ ap (λ (x : Candidate). map used h.places ++ x ∷ n.later) taken;
       }
 

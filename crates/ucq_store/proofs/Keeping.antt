@@ -84,8 +84,8 @@ DoneKeeps = (s : Store) (row : ℕ) → IsRow s row → depth_of s row ≡ s.lev
 
 -- a core is left over, for which there is no room
 abbrev pub FullKeeps : Type 0
-FullKeeps = (s : Store) (core : Query) → IsLeftOver s core → Keeps s (with_cut s (Rows core))
+FullKeeps = (s : Store) (core : Query) → IsLeftOver s.problem s.budget s.rows core → Keeps s (with_cut s (Rows core))
 
 -- a row has a rewriting that is too wide
 abbrev pub WideKeeps : Type 0
-WideKeeps = (s : Store) (row rule count : ℕ) → IsTooWide s row rule count → Keeps s (with_cut s (Wide row rule count))
+WideKeeps = (s : Store) (row rule count : ℕ) → IsTooWide s.problem.rules s.rows row rule count → Keeps s (with_cut s (Wide row rule count))

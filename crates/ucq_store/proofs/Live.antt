@@ -1,9 +1,9 @@
 -- The live rows of a list, and the list of their queries.
-use Rattle.std.proofs.Common.{◌≡◌, ◌≢◌, ℕ, ◌<◌, inl, inr, sym, ap, ◌∙◌, List, true, false, length, filter, Any, Contains}
+use Rattle.std.proofs.Common.{◌≡◌, ◌≢◌, ℕ, ◌<◌, ◌+◌, inl, inr, refl, sym, ap, ◌∙◌, List, [], ◌∷◌, ◌++◌, Bool, true, false, length, filter, map, take, Any, Contains}
 use Rattle.std.proofs.Math.ListN.{get_or-eq_default}
 use Rattle.std.proofs.lemmas.Bool.{cases_lt}
-use Rattle.std.proofs.lemmas.List.{get_or_default}
-use Rattle.std.proofs.lemmas.List.Elements.{Contains-get_or}
+use Rattle.std.proofs.lemmas.List.{append-nil, get_or_default, map-append, take_more}
+use Rattle.std.proofs.lemmas.List.Elements.{Contains-get_or, filter-append}
 use Rattle.ucq_terms.specs.Syntax.{Query}
 use Rattle.ucq_terms.specs.Homomorphism.{Covers}
 use Rattle.ucq_terms.specs.Union.{AreIncomparable}
@@ -49,3 +49,27 @@ any_live rows q c = Any-from_contains (λ m. Covers m q) (live_queries rows) (qu
 
 pub live_covers_on : (rows : List Row) (a b : Query) → SomeLiveCovers rows a → Covers a b → SomeLiveCovers rows b
 live_covers_on rows a b c on = record { row = c.row; live = c.live; covers = Covers-trans (query_at rows c.row) a b c.covers on }
+
+-- ---- the live queries before a place
+
+one_live : (q : Query) (b : Bool) → b ≡ true → live_queries (record { query = q; live = b } ∷ []) ≡ q ∷ []
+one_live q true e = refl
+one_live q false e = let bad : false ≡ true = e in cc
+
+one_dead : (q : Query) (b : Bool) → b ≡ false → live_queries (record { query = q; live = b } ∷ []) ≡ []
+one_dead q true e = let bad : true ≡ false = e in cc
+one_dead q false e = refl
+
+one_more : (rows : List Row) (row : ℕ) → row < length rows → live_queries (take (row + 1) rows) ≡ live_queries (take row rows) ++ live_queries (row_at rows row ∷ [])
+one_more rows row l =
+    ap live_queries (take_more rows row no_row l)
+    ∙ ap (map (λ (r : Row). r.query)) (filter-append (λ (r : Row). r.live) (take row rows) (row_at rows row ∷ []))
+    ∙ map-append (λ (r : Row). r.query) (filter (λ (r : Row). r.live) (take row rows)) (filter (λ (r : Row). r.live) (row_at rows row ∷ []))
+
+-- and the one at it, where it is live
+pub live_more : (rows : List Row) (row : ℕ) → row < length rows → (row_at rows row).live ≡ true → live_queries (take (row + 1) rows) ≡ live_queries (take row rows) ++ query_at rows row ∷ []
+live_more rows row l live = one_more rows row l ∙ ap (λ qs. live_queries (take row rows) ++ qs) (one_live (query_at rows row) (row_at rows row).live live)
+
+pub dead_more : (rows : List Row) (row : ℕ) → row < length rows → (row_at rows row).live ≡ false → live_queries (take (row + 1) rows) ≡ live_queries (take row rows)
+dead_more rows row l dead =
+    one_more rows row l ∙ ap (λ qs. live_queries (take row rows) ++ qs) (one_dead (query_at rows row) (row_at rows row).live dead) ∙ append-nil (live_queries (take row rows))

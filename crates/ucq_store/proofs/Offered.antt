@@ -55,7 +55,7 @@ module _ (s : Store) (c : Candidate) (core : Query) (offered : IsOffered s c) (h
   derived_here = subst (λ (q : Query). IsCoreOfOneStep s.problem.rules (query_of s offered.row) q) same_core offered.derived
 
   -- where there is no room for the core, it is left over
-  pub over : IsStored core → IsLawful s → ¬ SomeLiveCovers s.rows core → length s.rows ≡ s.budget → IsLeftOver s core
+  pub over : IsStored core → IsLawful s → ¬ SomeLiveCovers s.rows core → length s.rows ≡ s.budget → IsLeftOver s.problem s.budget s.rows core
   over stored law fresh full =
       left_over s offered.row core law (candidate_from s offered.row core law offered.row_of offered.row_depth derived_here stored) fresh full
 

@@ -79,7 +79,7 @@ pub record IsOffered (s : Store) (c : Candidate) : Type 0 where
 -- one core is covered by a live row, or is added, or is left over where there is no room for it
 abbrev pub DoesTake : Store → Candidate → Option Query → Store → Candidate → Type 0
 DoesTake s c None after c' = (core : Query) × HoldsCore c core × ((place : Option ℕ) × (c' ≡ used place) × Takes s (core ∷ []) (place ∷ []) after)
-DoesTake s c (Some left) after c' = HoldsCore c left × (c' ≡ used None) × (after ≡ s) × IsLeftOver s left
+DoesTake s c (Some left) after c' = HoldsCore c left × (c' ≡ used None) × (after ≡ s) × IsLeftOver s.problem s.budget s.rows left
 
 -- The cores of candidates, derived from a row of the level, may be taken.
 pub record AreOffered (s : Store) (row : ℕ) (candidates : List Candidate) : Type 0 where
@@ -112,7 +112,7 @@ pub record IsFilled (s : Store) (candidates : List Candidate) (left : Query) (af
   pub held_rest : HoldCores later rest
   pub places : List (Option ℕ)
   pub takes : Takes s seen places after
-  pub left_over : IsLeftOver after left
+  pub left_over : IsLeftOver after.problem after.budget after.rows left
   pub are : then ≡ map used places ++ used None ∷ later
 
 abbrev pub DoesTakeAll : Store → List Candidate → Option Query → Store → List Candidate → Type 0

@@ -8,7 +8,8 @@ use Rattle.ucq_terms.specs.Rewriting.{HasWidth, IsOneStep, IsOneStepWith}
 use Rattle.ucq_terms.specs.Union.{IsSound, AreIncomparable}
 use Rattle.ucq_store.specs.declared.RowState.{RowState}
 use Rattle.ucq_store.specs.declared.RowState.TheVariants.{Waiting, Open, Claimed, Done, Skipped}
-use Rattle.ucq_antichain.specs.Rows.{SomeLiveCovers}
+use Rattle.ucq_antichain.specs.declared.Row.{Row}
+use Rattle.ucq_antichain.specs.Rows.{query_at, SomeLiveCovers}
 use Rattle.ucq_store.specs.declared.Cut.{Cut}
 use Rattle.ucq_store.specs.declared.Cut.TheVariants.{Rows, Wide}
 use Rattle.ucq_store.specs.Store.{Store, IsRow, query_of, IsLive, depth_of, state_of}
@@ -68,26 +69,30 @@ pub record RowsAreDerived (s : Store) : Type 0 where
   pub depths : (earlier later : ℕ) → earlier < later → IsRow s later → depth_of s earlier ≤ depth_of s later
 
 -- The rows number the budget, and this sound core of a one-step rewriting of a row is covered by no row.
-pub record IsLeftOver (s : Store) (left : Query) : Type 0 where
-  pub full : length s.rows ≡ s.budget
-  pub sound_core : IsSoundCore s.problem left
+pub record IsLeftOver (problem : Problem) (budget : ℕ) (rows : List Row) (left : Query) : Type 0 where
+  pub full : length rows ≡ budget
+  pub sound_core : IsSoundCore problem left
   pub row : ℕ
-  pub row_of : IsRow s row
-  pub derived : IsCoreOfOneStep s.problem.rules (query_of s row) left
-  pub uncovered : (row : ℕ) → IsRow s row → ¬ Covers (query_of s row) left
+  pub row_of : row < length rows
+  pub derived : IsCoreOfOneStep problem.rules (query_at rows row) left
+  pub uncovered : (row : ℕ) → row < length rows → ¬ Covers (query_at rows row) left
 
--- The row has with the rule a one-step rewriting of that width, and that is too wide.
-pub record IsTooWide (s : Store) (row rule count : ℕ) : Type 0 where
-  pub row_of : IsRow s row
+-- the query has with that rule a one-step rewriting of that width, and that is too wide
+pub record HasWideStep (rules : List Rule) (q : Query) (rule count : ℕ) : Type 0 where
   pub result : Query
-  pub step : IsOneStepWith s.problem.rules rule (query_of s row) result
+  pub step : IsOneStepWith rules rule q result
   pub width : HasWidth result.atoms count
   pub wide : ATOMS < count
 
+-- the row's query has so with the rule a one-step rewriting that is too wide
+pub record IsTooWide (rules : List Rule) (rows : List Row) (row rule count : ℕ) : Type 0 where
+  pub row_of : row < length rows
+  pub wide_step : HasWideStep rules (query_at rows row) rule count
+
 abbrev pub HasCause : Store → Option Cut → Type 0
 HasCause s None = Unit {0}
-HasCause s (Some (Rows left)) = IsLeftOver s left
-HasCause s (Some (Wide row rule count)) = IsTooWide s row rule count
+HasCause s (Some (Rows left)) = IsLeftOver s.problem s.budget s.rows left
+HasCause s (Some (Wide row rule count)) = IsTooWide s.problem.rules s.rows row rule count
 
 -- A row is explored when it is Done, live or dead.
 pub record IsLawful (s : Store) : Type 0 where

@@ -1,12 +1,10 @@
 -- Reports on a claimed row.
 use Rattle.std.specs.Prelude.{ℕ, ◌<◌, length, Bool, List, All, Option, None, slice_index_or}
-use Rattle.ucq_terms.specs.declared.TheConstants.{ATOMS}
 use Rattle.ucq_terms.specs.Syntax.{Rule, Query, Problem}
-use Rattle.ucq_terms.specs.Rewriting.{HasWidth, IsOneStepWith}
 use Rattle.ucq_store.specs.declared.reports.Found.{Found}
 use Rattle.ucq_store.specs.declared.reports.Found.TheVariants.{Whole, Wide}
 use Rattle.ucq_store.specs.Candidates.{Candidate, used, HoldCores}
-use Rattle.ucq_store.specs.Lawful.{IsCoreOfOneStep}
+use Rattle.ucq_store.specs.Lawful.{HasWideStep, IsCoreOfOneStep}
 use Rattle.ucq_store.specs.Changes.{IsWhole}
 
 -- what was found for the query of a row of that problem, and whether a store has taken it
@@ -23,13 +21,6 @@ pub record AreFound (rules : List Rule) (q : Query) (candidates : List Candidate
   pub fresh : HoldCores candidates cores
   pub derived : All (IsCoreOfOneStep rules q) cores
   pub whole : IsWhole rules q cores
-
--- the query has with that rule a one-step rewriting of that width, and that is too wide
-pub record HasWideStep (rules : List Rule) (q : Query) (rule count : ℕ) : Type 0 where
-  pub result : Query
-  pub step : IsOneStepWith rules rule q result
-  pub width : HasWidth result.atoms count
-  pub wide : ATOMS < count
 
 -- what a report keeps until it is spent
 abbrev pub IsFound : List Rule → Query → Found → Type 0

@@ -5,7 +5,8 @@ ghost use Rattle.ucq_hom.specs.Space.{IsClear};
 ghost use Rattle.ucq_store.specs.Store.{depth_of};
 ghost use Rattle.ucq_store.specs.Lawful.{IsLawful};
 ghost use Rattle.ucq_store.specs.Candidates.{plain, known, IsEvident, IsHeldAt, IsKnownAmong};
-ghost use Rattle.ucq_store.specs.Reports.{AreFound, HasWideStep, HasPlace, candidate_count, placed_at, placed_in};
+ghost use Rattle.ucq_store.specs.Lawful.{HasWideStep};
+ghost use Rattle.ucq_store.specs.Reports.{AreFound, HasPlace, candidate_count, placed_at, placed_in};
 ghost use Rattle.ucq_store.specs.Calls.{AreOffered, DoesTakeAll, IsAbout, DoesDeliver};
 
 use crate::{Published, Store};

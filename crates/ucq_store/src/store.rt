@@ -1,5 +1,5 @@
 //! The store.
-ghost use Rattle.std.specs.Prelude.{◌≡◌, ◌<◌, ◌≤◌, length, MatchOption, IfOk, IfSome, IsTrue, ◌↔◌, Some, None, false};
+ghost use Rattle.std.specs.Prelude.{◌≡◌, ◌<◌, ◌≤◌, length, vec_len, MatchOption, IfOk, IfSome, IsTrue, ◌↔◌, Some, None, false};
 ghost use Rattle.ucq_terms.specs.Homomorphism.{IsCoreOf};
 ghost use Rattle.ucq_terms.specs.Union.{IsExact};
 ghost use Rattle.ucq_hom.specs.Space.{IsClear};
@@ -288,6 +288,16 @@ impl<'p> Store<'p> {
         !does_any_wait(&self.antichain, self.marks.as_slice())
     }
 
+    /// Copies of the queries of the live rows of a finished store, in order. Want of memory is the one error.
+    pub fn union(&self, alloc: Global) -> Result<Union, NoMemory>
+        requires { IsFinished self.now }
+        ensures live { IfOk result (λ union. union ≡ live_queries self.now.rows) }
+        ensures exact { IfOk result (λ union. IsExact self.now.problem union) }
+    {
+        let _ = &self.level;
+        Ok(Union::new(live_copies(alloc, &self.antichain)?))
+    }
+
     /// The queries of the live rows of a finished store, in order.
     pub fn into_union(self) -> Union
         requires { IsFinished self }
@@ -342,7 +352,7 @@ impl<'p> Store<'p> {
 
     // Cuts the store at a core for which there is no room.
     pub(crate) fn cut_full(&mut self, left: Query)
-        requires { IsLeftOver self.old left }
+        requires { IsLeftOver self.old.problem self.old.budget self.old.rows left }
         ensures { self.new ≡ with_cut self.old (Cut.Rows left) }
     {
         self.cut = Some(Cut::Rows { left });
@@ -350,9 +360,23 @@ impl<'p> Store<'p> {
 
     // Cuts the store at a row that has a rewriting that is too wide.
     pub(crate) fn cut_wide(&mut self, row: u32, rule: u32, count: u32)
-        requires { IsTooWide self.old row rule count }
+        requires { IsTooWide self.old.problem.rules self.old.rows row rule count }
         ensures { self.new ≡ with_cut self.old (Cut.Wide row rule count) }
     {
         self.cut = Some(Cut::Wide { row, rule, count });
     }
+}
+
+// Copies of the queries of the live rows, in order.
+fn live_copies(alloc: Global, antichain: &Antichain) -> Result<Vec<Query>, NoMemory>
+    ensures live { IfOk result (λ live. live.items ≡ live_queries antichain.now.rows) }
+    ensures few { IfOk result (λ live. vec_len live ≤ 65536) }
+{
+    let mut live = Vec::new(alloc);
+    for row in 0..antichain.len() {
+        if antichain.is_live(row) {
+            live.push(antichain.query(row).copy()?)?;
+        }
+    }
+    Ok(live)
 }

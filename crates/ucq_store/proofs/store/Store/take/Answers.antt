@@ -62,9 +62,9 @@ returns-in-Full-clause-does c =
     let s : Store = record { problem = f.problem.now; budget = f.antichain.budget; rows = f.antichain.rows; marks = f.marks.items; level = f.level; claims = f.claims; cut = f.cut } in
     let o : IsOffered s c.args.candidate.now = subst (λ (v : Store). IsOffered v c.args.candidate.now) (sym c.self.view_is) c.requires in
     let (same, back, fresh, full) = c.in-Full.ensures.does in
-    let left : IsLeftOver s c.in_ok-core.core = over s c.args.candidate.now c.in_ok-core.core o c.in_ok-core.ensures.core c.in-Full.ensures.stored c.self.invariant.0.lawful fresh full in (
+    let left : IsLeftOver s.problem s.budget s.rows c.in_ok-core.core = over s c.args.candidate.now c.in_ok-core.core o c.in_ok-core.ensures.core c.in-Full.ensures.stored c.self.invariant.0.lawful fresh full in (
       subst (HoldsCore c.args.candidate.now) (sym back) (holds_core s c.args.candidate.now c.in_ok-core.core o c.in_ok-core.ensures.core),
       c.take.ensures.left ∙ ap used o.fresh.placed_nowhere,
       ap (λ (k : Kept). with_rows s k s.marks) same ∙ c.self.view_is,
-      subst (λ (v : Store). IsLeftOver v c.in-Full.query) c.self.view_is (subst (IsLeftOver s) (sym back) left),
+      subst (λ (v : Store). IsLeftOver v.problem v.budget v.rows c.in-Full.query) c.self.view_is (subst (IsLeftOver s.problem s.budget s.rows) (sym back) left),
     )
