@@ -1,3 +1,4 @@
 pub mod Texts
 pub mod Refusals
 pub mod Laws
+pub mod Rows

@@ -1,9 +1,11 @@
-//! The finished text of a union, a line at a time.
-ghost use Rattle.std.specs.Prelude.{◌≡◌, ◌<◌, ◌^◌, ℕ, List, length, slice_get, IfOk, Some};
-ghost use Rattle.ucq_print.specs.Texts.{finished_lines};
+//! The finished text of a union, a line at a time, and of the live rows of a rewriting.
+ghost use Rattle.std.specs.Prelude.{◌≡◌, ◌<◌, ◌≤◌, ◌^◌, ◌++◌, ℕ, List, codes, length, slice_get, IfOk, Some};
+ghost use Rattle.ucq_antichain.specs.Rows.{live_queries};
+ghost use Rattle.ucq_print.specs.Texts.{count_line, finished_lines};
 
 use crate::answers::number_line;
 use crate::queries::query_line_after;
+use crate::rows::Rows;
 use std::alloc::Global;
 use ucq_terms::{Names, NoMemory, Union};
 
@@ -32,4 +34,26 @@ pub fn finished_line(
         1 => number_line(alloc, b"% queries ", u64::from(count)),
         _ => query_line_after(alloc, b"", names, union.query((place - 2) as u32)),
     }
+}
+
+/// How many of the rows are live.
+pub fn live_count<R: Rows>(rows: &R) -> u32
+    ensures live { result ≡ length (live_queries (R.value rows.now).rows) }
+    ensures few { result ≤ 65536 }
+{
+    let mut count: u32 = 0;
+    for row in 0..rows.count() {
+        if rows.is_live_at(row) {
+            count += 1;
+        }
+    }
+    count
+}
+
+/// The lines before the queries of a finished text: what was found, and how many queries there are. The only error is want
+/// of memory.
+pub fn finished_head(alloc: Global, count: u32) -> Result<Vec<u8>, NoMemory>
+    ensures { IfOk result (λ head. head.items ≡ codes "% finished\n" ++ count_line count) }
+{
+    number_line(alloc, b"% finished\n% queries ", u64::from(count))
 }

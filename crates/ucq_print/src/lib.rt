@@ -10,13 +10,15 @@ mod finished;
 pub mod laws;
 mod queries;
 mod refusals;
+mod rows;
 
 pub use answers::{
     answer_line, answer_line_count, kept_answer_line, kept_answer_line_count, summary_line,
     summary_line_count,
 };
-pub use cuts::{cut_line, cut_line_count};
-pub use finished::{finished_line, finished_line_count};
+pub use cuts::{cut_line, cut_line_count, row_line};
+pub use finished::{finished_head, finished_line, finished_line_count, live_count};
 pub use queries::query_text;
 pub use refusals::refusal_text;
+pub use rows::Rows;
 pub use ucq_eval::tuple_text;

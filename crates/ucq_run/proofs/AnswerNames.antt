@@ -1,5 +1,5 @@
 -- Every constant of an answer has a name.
-use Rattle.std.proofs.Common.{◌≡◌, ◌<◌, ◌^◌, ℕ, List, length, All, Contains, sym, subst}
+use Rattle.std.proofs.Common.{◌<◌, ◌^◌, ℕ, List, length, All, Contains, sym, subst}
 use Rattle.std.proofs.lemmas.List.Elements.{All-contains}
 use Rattle.ucq_terms.specs.declared.Term.{Term}
 use Rattle.ucq_terms.specs.declared.Term.TheVariants.{Constant, Variable}
@@ -49,10 +49,9 @@ answers_are_held names problem union facts tuples exact printable facts_held cha
     answer_held names problem union facts (constants tuple) exact printable facts_held ((chased.each tuple).0 i) in
     All-from_contains (λ c. c < length names) tuple (λ c j. All-contains (IsHeldTerm (length names)) (constants tuple) (Constant c) held (Contains-map Constant tuple c j)))
 
--- so the answers that were found are printable, as a slice of a vector
-pub printed_answers : (names : List (List ℕ)) (problem : Problem) (union : List Query) (facts : List Atom) (tuples slice : List (List ℕ)) → IsExact problem union →
-    ArePrintable names union → AreHeldAtoms (length names) facts → length tuples < 2 ^ 64 → slice ≡ tuples → AreChaseAnswers names problem facts tuples →
-    AreChaseAnswers names problem facts slice × ArePrintableTuples names slice
-printed_answers names problem union facts tuples slice exact printable facts_held few same chased =
-    subst (λ (ts : List (List ℕ)). AreChaseAnswers names problem facts ts × ArePrintableTuples names ts) (sym same)
+-- so the answers that were found are printable
+pub printed_answers : (names : List (List ℕ)) (problem : Problem) (union : List Query) (facts : List Atom) (tuples : List (List ℕ)) → IsExact problem union →
+    ArePrintable names union → AreHeldAtoms (length names) facts → length tuples < 2 ^ 64 → AreChaseAnswers names problem facts tuples →
+    AreChaseAnswers names problem facts tuples × ArePrintableTuples names tuples
+printed_answers names problem union facts tuples exact printable facts_held few chased =
     (chased, record { held = answers_are_held names problem union facts tuples exact printable facts_held chased; few = few })

@@ -1,4 +1,5 @@
 mod Told
+mod Written
 mod Reported
 mod Sections
 mod Printing
@@ -7,6 +8,7 @@ mod OneSize
 mod OneProblem
 mod Asking
 mod Answered
+mod Solved
 mod Decided
 mod FilesRead
 mod OverFacts

@@ -59,7 +59,7 @@ live_are_printable names s lawful held small = record {
 -- a text for the question, written whole or in part
 prints_written : (q : Question) (out : SinkChange) (text : List ℕ) (answer : Result (Unit {0}) Unwritten) (whole outcome : Outcome) →
     (IsFinishedText q text ⊎ IsCutTextOf q text) → (TookAll out text → PrintsFor q out whole) →
-    IsWritten out.taken_before out.taken_after out.faults_before out.faults_after text answer → IsWrittenAs answer whole outcome → PrintsFor q out outcome
+    IsWritten out text answer → IsWrittenAs answer whole outcome → PrintsFor q out outcome
 prints_written q out text (Ok u) whole outcome says all w is = subst (λ (o : Outcome). PrintsFor q out o) (sym is) (all w)
 prints_written q out text (Err Failed) whole outcome says all w is = subst (λ (o : Outcome). PrintsFor q out o) (sym is) (w.0, (text, says, w.1))
 prints_written q out text (Err Memory) whole outcome says all w is = subst (λ (o : Outcome). PrintsFor q out o) (sym is) (inr (text, says, w))
@@ -67,7 +67,7 @@ prints_written q out text (Err Memory) whole outcome says all w is = subst (λ (
 -- the finished text of an exact union
 pub prints_finished : (q : Question) (out : SinkChange) (union : List Query) (text : List ℕ) (answer : Result (Unit {0}) Unwritten) (outcome : Outcome) →
     IsExact q.problem union → ArePrintable q.names union → IsPrintedIn q.form q union text →
-    IsWritten out.taken_before out.taken_after out.faults_before out.faults_after text answer → IsWrittenAs answer Finished outcome → PrintsFor q out outcome
+    IsWritten out text answer → IsWrittenAs answer Finished outcome → PrintsFor q out outcome
 prints_finished q out union text answer outcome exact printable printed w is =
     let says : IsFinishedText q text = record { union = union; exact = exact; printable = printable; printed = printed } in
     prints_written q out text answer Finished outcome (inl says) (λ took. (text, says, took)) w is
@@ -83,7 +83,7 @@ cut_says listing names s lawful held cut = go s.cut cut lawful.cut_has_cause
       rows = s.rows;
       left = left;
       listing = listing s lawful;
-      left_by = record { full = cause.full; sound_core = cause.sound_core; row = cause.row; row_of = cause.row_of; derived = cause.derived; uncovered = cause.uncovered };
+      left_over = cause;
       printable = rows_are_printable names s lawful held;
       printable_left =
           stored_is_printable names left cause.sound_core.stored
@@ -96,7 +96,7 @@ cut_says listing names s lawful held cut = go s.cut cut lawful.cut_has_cause
       rule = rule;
       width = count;
       listing = listing s lawful;
-      wide = record { row_of = cause.row_of; wide_step = record { result = cause.result; step = cause.step; width = cause.width; wide = cause.wide } };
+      wide = cause;
       printable = rows_are_printable names s lawful held;
       printed = refl;
     })
@@ -112,7 +112,7 @@ not_enough enough s lawful cut h =
     cc
 
 pub prints_cut : CutListing → EnoughBudget → (q : Question) (out : SinkChange) (s : Store) (answer : Result (Unit {0}) Unwritten) (outcome : Outcome) → IsLawfulByLevels s →
-    IsHeldProblem (length q.names) s.problem → IsCut s → IsWritten out.taken_before out.taken_after out.faults_before out.faults_after (lines_text (cut_lines q.names s)) answer → IsWrittenAs answer Cut outcome →
+    IsHeldProblem (length q.names) s.problem → IsCut s → IsWritten out (lines_text (cut_lines q.names s)) answer → IsWrittenAs answer Cut outcome →
     PrintsFor (question_with q s) out outcome
 prints_cut listing enough q out s answer outcome lawful held cut w is =
     let text : List ℕ = lines_text (cut_lines q.names s) in

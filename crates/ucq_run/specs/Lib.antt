@@ -6,6 +6,8 @@ pub mod Cuts
 pub mod Parts
 pub mod Printed
 pub mod Asked
+pub mod Solved
+pub mod Written
 pub mod Outcomes
 pub mod Run
 pub mod Laws

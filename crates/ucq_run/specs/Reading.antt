@@ -1,7 +1,8 @@
 -- What the reading of a file answers, and what a whole write says.
-use Rattle.std.specs.Prelude.{◌≡◌, ◌≤◌, ◌<◌, ◌++◌, ℕ, List, length, take, Option, Some, Result, Ok, Err, IfSome}
+use Rattle.std.specs.Prelude.{◌≡◌, ◌≤◌, ◌<◌, ℕ, List, length, Option, Result, Ok, Err, IfSome}
 use Rattle.std.specs.Global.{Vec}
 use Rattle.ucq_outside.specs.Causes.{Rose}
+use Rattle.ucq_outside.specs.Taken.{SinkChange, TookAll, TookPrefix}
 use Rattle.ucq_run.specs.declared.reading.Unread.{Unread}
 use Rattle.ucq_run.specs.declared.reading.Unread.TheVariants as unread
 use Rattle.ucq_run.specs.declared.writing.Unwritten.{Unwritten}
@@ -15,14 +16,13 @@ IsReading held before now room (Err (unread.Failed at)) = Rose before now × IfS
 IsReading held before now room (Err unread.TooLong) = IfSome held (λ file. room < length file)
 IsReading held before now room (Err unread.Memory) = Unit {0}
 
--- Ok: where told, all of the text was taken. Err: a prefix of it.
-abbrev pub IsPushed : {E : Type 0} → Option (List ℕ) → Option (List ℕ) → List ℕ → Result (Unit {0}) E → Type 0
-IsPushed before now text (Ok u) = IfSome now (λ bytes. (old : List ℕ) × (before ≡ Some old) × (bytes ≡ old ++ text))
-IsPushed before now text (Err e) = IfSome now (λ bytes. (old : List ℕ) × (count : ℕ) × (before ≡ Some old) × (bytes ≡ old ++ take count text))
+-- Ok: all of the text was taken. Err: a prefix of it.
+abbrev pub IsPushed : {E : Type 0} → SinkChange → List ℕ → Result (Unit {0}) E → Type 0
+IsPushed sink text (Ok u) = TookAll sink text
+IsPushed sink text (Err e) = TookPrefix sink text
 
--- Ok: where told, all of the text was taken. Else a prefix of it; a failure of the sink comes only where its count of faults rose.
-abbrev pub IsWritten : Option (List ℕ) → Option (List ℕ) → ℕ → ℕ → List ℕ → Result (Unit {0}) Unwritten → Type 0
-IsWritten before now faults_before faults_now text (Ok u) = IfSome now (λ bytes. (old : List ℕ) × (before ≡ Some old) × (bytes ≡ old ++ text))
-IsWritten before now faults_before faults_now text (Err Failed) =
-    Rose faults_before faults_now × IfSome now (λ bytes. (old : List ℕ) × (count : ℕ) × (before ≡ Some old) × (bytes ≡ old ++ take count text))
-IsWritten before now faults_before faults_now text (Err Memory) = IfSome now (λ bytes. (old : List ℕ) × (count : ℕ) × (before ≡ Some old) × (bytes ≡ old ++ take count text))
+-- Ok: all of the text was taken. Else a prefix of it; a failure of the sink comes only where its count of faults rose.
+abbrev pub IsWritten : SinkChange → List ℕ → Result (Unit {0}) Unwritten → Type 0
+IsWritten sink text (Ok u) = TookAll sink text
+IsWritten sink text (Err Failed) = Rose sink.faults_before sink.faults_after × TookPrefix sink text
+IsWritten sink text (Err Memory) = TookPrefix sink text

@@ -45,9 +45,10 @@ fn read_all<H: Shelf>(
     names: &[String],
 ) -> Result<Vec<Vec<u8>>, Outcome>
     requires few { length names.now ≤ 64 }
-    ensures { MatchResult result
+    ensures files { MatchResult result
         (λ files. AreRead (H.held shelf.old) (map string_bytes names.now) (texts_of files.items))
         (λ outcome. HaveCause (H.held shelf.old) (map string_bytes names.now) (H.faults shelf.old) (H.faults shelf.new) outcome) }
+    ensures later { H.faults shelf.old ≤ H.faults shelf.new }
 {
     let mut files = Vec::new(alloc);
     let mut total: usize = 0;
@@ -81,6 +82,7 @@ fn read_input<H: Shelf>(alloc: Global, shelf: &mut H, names: &[String]) -> Resul
         (λ outcome. HaveCause (H.held shelf.old) (map string_bytes names.now) (H.faults shelf.old) (H.faults shelf.new) outcome) }
     ensures rules { IfOk result (λ input. length (input_value input).rules ≤ 4096) }
     ensures facts { IfOk result (λ input. length (input_value input).facts ≤ 2 ^ 20) }
+    ensures later { H.faults shelf.old ≤ H.faults shelf.new }
 {
     let files = match read_all(alloc, shelf, names) {
         Ok(files) => files,
@@ -100,6 +102,7 @@ pub fn input_of<H: Shelf>(alloc: Global, shelf: &mut H, job: &Job) -> Result<Inp
         (λ outcome. IsJobCause (H.held shelf.old) (job_value job.now) (H.faults shelf.old) (H.faults shelf.new) outcome) }
     ensures rules { IfOk result (λ input. length (input_value input).rules ≤ 4096) }
     ensures facts { IfOk result (λ input. length (input_value input).facts ≤ 2 ^ 20) }
+    ensures later { H.faults shelf.old ≤ H.faults shelf.new }
 {
     match job {
         Job::Files(names) => read_input(alloc, shelf, names.as_slice()),

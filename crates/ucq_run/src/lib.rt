@@ -6,20 +6,24 @@ ghost use Rattle.ucq_run.specs.Inputs.{call_of};
 ghost use Rattle.ucq_outside.specs.Taken.{change_of};
 ghost use Rattle.ucq_run.specs.Run.{IsFullRun};
 
-mod answers;
 mod asked;
+mod finished;
 mod form;
 mod inputs;
 pub mod laws;
 mod outcome;
 mod over_facts;
+mod parts;
 mod reading;
 mod reports;
 mod solving;
 mod texts;
 mod writing;
 
-use crate::answers::{answer_alone, answer_by_crew};
+use crate::asked::prepare;
+use crate::parts::print_parts;
+use crate::reports::report;
+use crate::solving::{solve_alone, solve_by_crew};
 use std::alloc::Global;
 use std::sync::Wait;
 use std::thread::Threads;
@@ -56,8 +60,13 @@ pub fn run<H: Shelf, K: Sink, E: Sink, G: Gate + Sync, R: Threads + Wait + Sync>
         result }
 {
     one_settings();
-    let outcome = answer_by_crew(rt, alloc, words, shelf, out, gate);
-    reports::report(alloc, err, outcome)
+    let asked = match prepare(alloc, words, shelf) {
+        Ok(asked) => asked,
+        Err(outcome) => return report(alloc, err, outcome),
+    };
+    let solved = solve_by_crew(rt, alloc, &asked, gate);
+    let outcome = print_parts(alloc, &asked, solved, out);
+    report(alloc, err, outcome)
 }
 
 /// The same on one thread, whatever number of workers the words give. It takes no handle, and always returns.
@@ -75,6 +84,11 @@ pub fn run_alone<H: Shelf, K: Sink, E: Sink>(
         result }
 {
     one_settings();
-    let outcome = answer_alone(alloc, words, shelf, out);
-    reports::report(alloc, err, outcome)
+    let asked = match prepare(alloc, words, shelf) {
+        Ok(asked) => asked,
+        Err(outcome) => return report(alloc, err, outcome),
+    };
+    let solved = solve_alone(alloc, &asked);
+    let outcome = print_parts(alloc, &asked, solved, out);
+    report(alloc, err, outcome)
 }

@@ -1,5 +1,5 @@
 //! The error stream's line and the status of an outcome.
-ghost use Rattle.std.specs.Prelude.{◌≡◌, ◌++◌, IfOk, codes, decimal, string_bytes};
+ghost use Rattle.std.specs.Prelude.{◌≡◌, ◌≤◌, ◌++◌, IfOk, codes, decimal, string_bytes};
 ghost use Rattle.ucq_print.specs.Refusals.{refusal_line};
 ghost use Rattle.ucq_run.specs.declared.outcome.Outcome.TheVariants as outcomes;
 ghost use Rattle.ucq_run.specs.Outcomes.{outcome_line};
@@ -46,6 +46,7 @@ fn too_long_line(alloc: Global, file: u32) -> Result<Vec<u8>, NoMemory>
 fn tell<E: Sink>(err: &mut E, line: &[u8], status: u8) -> u8
     ensures status { result ≡ status }
     ensures line { TookLine (record { taken_before = E.taken err.old; taken_after = E.taken err.new; faults_before = E.faults err.old; faults_after = E.faults err.new }) line.now }
+    ensures later { E.faults err.old ≤ E.faults err.new }
 {
     match write_line(err, line) {
         Ok(()) => status,
@@ -55,7 +56,8 @@ fn tell<E: Sink>(err: &mut E, line: &[u8], status: u8) -> u8
 
 /// The same with a line that was made, or else that of want of memory.
 fn tell_made<E: Sink>(err: &mut E, line: Result<Vec<u8>, NoMemory>, status: u8) -> u8
-    ensures { IsTold (record { taken_before = E.taken err.old; taken_after = E.taken err.new; faults_before = E.faults err.old; faults_after = E.faults err.new }) line status result }
+    ensures told { IsTold (record { taken_before = E.taken err.old; taken_after = E.taken err.new; faults_before = E.faults err.old; faults_after = E.faults err.new }) line status result }
+    ensures later { E.faults err.old ≤ E.faults err.new }
 {
     match line {
         Ok(line) => tell(err, line.as_slice(), status),
@@ -65,7 +67,8 @@ fn tell_made<E: Sink>(err: &mut E, line: Result<Vec<u8>, NoMemory>, status: u8) 
 
 /// Tells the outcome, and answers its status. Where its line takes memory that isn't there, the outcome is want of memory.
 pub fn report<E: Sink>(alloc: Global, err: &mut E, outcome: Outcome) -> u8
-    ensures { IsReported (record { taken_before = E.taken err.old; taken_after = E.taken err.new; faults_before = E.faults err.old; faults_after = E.faults err.new }) outcome result }
+    ensures reported { IsReported (record { taken_before = E.taken err.old; taken_after = E.taken err.new; faults_before = E.faults err.old; faults_after = E.faults err.new }) outcome result }
+    ensures later { E.faults err.old ≤ E.faults err.new }
 {
     match outcome {
         Outcome::Finished => 0,

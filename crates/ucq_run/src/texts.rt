@@ -1,15 +1,15 @@
 //! The texts that a run prints, as lines that are made one at a time.
 ghost use Rattle.std.specs.Prelude.{◌≡◌, ◌<◌, ◌^◌, ℕ, List, length, slice_get, IfOk, Some};
-ghost use Rattle.ucq_print.specs.Texts.{answered_lines, cut_lines, finished_lines, summary_lines};
+ghost use Rattle.ucq_print.specs.Rows.{rows_lines};
+ghost use Rattle.ucq_print.specs.Texts.{answer_lines, summary_lines};
 
 use std::alloc::Global;
-use ucq_eval::Tuple;
+use ucq_eval::Answers;
 use ucq_print::{
-    answer_line, answer_line_count, cut_line, cut_line_count, finished_line, finished_line_count,
-    summary_line, summary_line_count,
+    Rows, cut_line, cut_line_count, kept_answer_line, kept_answer_line_count, summary_line,
+    summary_line_count,
 };
-use ucq_store::Store;
-use ucq_terms::{Names, NoMemory, Union};
+use ucq_terms::{Names, NoMemory};
 
 /// A text of lines.
 pub trait Text {
@@ -26,47 +26,21 @@ pub trait Text {
         ensures { IfOk result (λ line. slice_get (lines self.now) place ≡ Some line.items) };
 }
 
-/// The finished text of a union.
+/// The answers of a union.
 #[derive(Clone, Copy)]
-pub struct FinishedText<'a> {
-    pub names: &'a Names,
-    pub union: &'a Union,
+pub struct AnswersText<'a, 'n> {
+    pub answers: &'a Answers<'n>,
 }
 
-impl Text for FinishedText<'_> {
-    ghost lines = { λ t. finished_lines t.names.now t.union.now };
+impl Text for AnswersText<'_, '_> {
+    ghost lines = { λ t. answer_lines t.answers.now.names t.answers.now.tuples };
 
     fn len(&self) -> u64 {
-        finished_line_count(self.union)
+        kept_answer_line_count(self.answers)
     }
 
     fn line(&self, alloc: Global, place: u64) -> Result<Vec<u8>, NoMemory> {
-        finished_line(alloc, self.names, self.union, place)
-    }
-}
-
-/// The finished text of a union with its answers.
-#[derive(Clone, Copy)]
-pub struct AnsweredText<'a> {
-    pub names: &'a Names,
-    pub union: &'a Union,
-    pub tuples: &'a [Tuple],
-}
-
-impl Text for AnsweredText<'_> {
-    ghost lines = { λ t. answered_lines t.names.now t.union.now t.tuples.now };
-
-    fn len(&self) -> u64 {
-        finished_line_count(self.union) + answer_line_count(self.tuples)
-    }
-
-    fn line(&self, alloc: Global, place: u64) -> Result<Vec<u8>, NoMemory> {
-        let first = finished_line_count(self.union);
-        if place < first {
-            finished_line(alloc, self.names, self.union, place)
-        } else {
-            answer_line(alloc, self.names, self.tuples, place - first)
-        }
+        kept_answer_line(alloc, self.answers, place)
     }
 }
 
@@ -90,23 +64,23 @@ impl Text for SummaryText {
     }
 }
 
-/// The text of a cut store.
+/// The text of a cut.
 #[derive(Clone, Copy)]
-pub struct CutText<'a, 'p> {
+pub struct CutText<'a, R: Rows> {
     pub names: &'a Names,
-    pub store: &'a Store<'p>,
+    pub rows: &'a R,
 }
 
-impl Text for CutText<'_, '_> {
-    ghost lines = { λ t. cut_lines t.names.now t.store.now };
+impl<R: Rows> Text for CutText<'_, R> {
+    ghost lines = { λ t. rows_lines t.names.now (R.value t.rows.now) };
 
     fn len(&self) -> u64 {
-        u64::from(cut_line_count(self.store))
+        u64::from(cut_line_count(self.rows))
     }
 
     fn line(&self, alloc: Global, place: u64) -> Result<Vec<u8>, NoMemory> {
-        let count = u64::from(cut_line_count(self.store));
+        let count = u64::from(cut_line_count(self.rows));
         prove!(place < count);
-        cut_line(alloc, self.names, self.store, place as u32)
+        cut_line(alloc, self.names, self.rows, place as u32)
     }
 }

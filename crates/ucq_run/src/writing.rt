@@ -1,6 +1,7 @@
 //! The writing of whole lines.
-ghost use Rattle.std.specs.Prelude.{◌≡◌, ◌≤◌, ℕ, List, IfErr, length};
+ghost use Rattle.std.specs.Prelude.{◌≡◌, ◌≤◌, ℕ, List, IfErr, IfOk};
 ghost use Rattle.ucq_outside.specs.Causes.{Rose};
+ghost use Rattle.ucq_outside.specs.Taken.{change_of};
 ghost use Rattle.ucq_print.specs.Texts.{lines_text};
 ghost use Rattle.ucq_run.specs.Reading.{IsPushed, IsWritten};
 
@@ -20,7 +21,7 @@ pub enum Unwritten {
 
 /// Pushes a line until it is taken whole.
 pub fn write_line<K: Sink>(sink: &mut K, line: &[u8]) -> Result<(), Failed>
-    ensures taken { IsPushed (K.taken sink.old) (K.taken sink.new) line.now result }
+    ensures taken { IsPushed (change_of (K.taken sink.old) (K.taken sink.new) (K.faults sink.old) (K.faults sink.new)) line.now result }
     ensures later { K.faults sink.old ≤ K.faults sink.new }
     ensures cause { IfErr result (λ _. Rose (K.faults sink.old) (K.faults sink.new)) }
 {
@@ -31,18 +32,28 @@ pub fn write_line<K: Sink>(sink: &mut K, line: &[u8]) -> Result<(), Failed>
     Ok(())
 }
 
+/// Writes a line that was made.
+pub fn write_made<K: Sink>(sink: &mut K, line: Result<Vec<u8>, NoMemory>) -> Result<(), Unwritten>
+    ensures written { (text : List ℕ) → IfOk line (λ made. made.items ≡ text) → IsWritten (change_of (K.taken sink.old) (K.taken sink.new) (K.faults sink.old) (K.faults sink.new)) text result }
+    ensures later { K.faults sink.old ≤ K.faults sink.new }
+{
+    let line = match line {
+        Ok(line) => line,
+        Err(NoMemory) => return Err(Unwritten::Memory),
+    };
+    match write_line(sink, line.as_slice()) {
+        Ok(()) => Ok(()),
+        Err(Failed) => Err(Unwritten::Failed),
+    }
+}
+
 /// Makes and writes the lines of a text, one after the other.
 pub fn write_text<K: Sink, T: Text>(alloc: Global, sink: &mut K, text: &T) -> Result<(), Unwritten>
-    ensures { IsWritten (K.taken sink.old) (K.taken sink.new) (K.faults sink.old) (K.faults sink.new) (lines_text (T.lines text.now)) result }
+    ensures written { IsWritten (change_of (K.taken sink.old) (K.taken sink.new) (K.faults sink.old) (K.faults sink.new)) (lines_text (T.lines text.now)) result }
+    ensures later { K.faults sink.old ≤ K.faults sink.new }
 {
     for place in 0..text.len() {
-        let line = match text.line(alloc, place) {
-            Ok(line) => line,
-            Err(NoMemory) => return Err(Unwritten::Memory),
-        };
-        if let Err(Failed) = write_line(sink, line.as_slice()) {
-            return Err(Unwritten::Failed);
-        }
+        write_made(sink, text.line(alloc, place))?;
     }
     Ok(())
 }

@@ -8,8 +8,8 @@ use Rattle.ucq_chase.specs.Names.{IsHeldProblem}
 use Rattle.ucq_run.proofs.Asking.{asked_is_held, budget_within, workers_within}
 use Rattle.ucq_run.proofs.asked.prepare.Goals as goal
 
-pub returns-in-Ok-input_of : goal.returns-in-Ok-input_of
-returns-in-Ok-input_of g c =
+pub returns-in-Ok-input_of-clause-read : goal.returns-in-Ok-input_of-clause-read
+returns-in-Ok-input_of-clause-read g c =
     let settings = settings_value c.in-Ok.settings in
     let input = input_value c.in-Ok-input_of.field-0 in
     let budget = budget_within _ settings c.in-Ok.ensures in
@@ -21,13 +21,12 @@ returns-in-Ok-input_of g c =
       asked = record { stand = c.in-Ok.ensures; has = c.in-Ok-input_of.ensures.input };
       question = ap₂ (λ (f : Form) (p : Problem). let q : Question = record { form = f; names = input.names; problem = p; facts = input.facts; budget = settings.budget } in q)
           c.form_of-form.ensures c.new.ensures;
+      about = record { indexed = c.in_ok-facts_in_form-in-Ok-input_of.ensures; held = held.facts };
       within = record {
         some = budget.low;
         small = budget.high;
         one = workers.low;
         few = workers.high;
-        facts = c.in-Ok-input_of.ensures.facts;
         held = subst (IsHeldProblem (length input.names)) (sym c.new.ensures) held.problem;
-        held_facts = held.facts;
       };
     }

@@ -29,8 +29,8 @@ loop-file-preserved g c =
       later = omega (arith, c.in-Ok.ensures.later, c.loop-file.invariant.later);
     }
 
-pub returns-in-Err : goal.returns-in-Err
-returns-in-Err g c =
+pub returns-in-Err-clause-files : goal.returns-in-Err-clause-files
+returns-in-Err-clause-files g c =
     let held = g.H.Shelf.held c.args.shelf.now in
     let name = c.as_str.result.now in
     let before = texts c.loop-file.files.items in

@@ -1,0 +1,78 @@
+//! The writing of what was found.
+ghost use Rattle.std.specs.Prelude.{All, ◌≡◌, ◌≤◌};
+ghost use Rattle.ucq_terms.specs.Syntax.{HasEachOnce};
+ghost use Rattle.ucq_antichain.specs.Rows.{live_queries};
+ghost use Rattle.ucq_outside.specs.Taken.{change_of};
+ghost use Rattle.ucq_print.specs.Texts.{answered_text, atom_count, finished_text};
+ghost use Rattle.ucq_run.specs.Reading.{IsWritten};
+ghost use Rattle.ucq_run.specs.Written.{row_texts};
+
+use crate::texts::AnswersText;
+use crate::writing::{Unwritten, write_made, write_text};
+use std::alloc::Global;
+use ucq_eval::Answers;
+use ucq_outside::Sink;
+use ucq_print::{Rows, finished_head, live_count, row_line};
+use ucq_terms::Names;
+
+/// Writes the queries of the live rows, each on a line.
+fn write_live<K: Sink, R: Rows>(
+    alloc: Global,
+    sink: &mut K,
+    names: &Names,
+    rows: &R,
+) -> Result<(), Unwritten>
+    ensures written { IsWritten (change_of (K.taken sink.old) (K.taken sink.new) (K.faults sink.old) (K.faults sink.new)) (row_texts names.now (R.value rows.now).rows) result }
+    ensures later { K.faults sink.old ≤ K.faults sink.new }
+{
+    for row in 0..rows.count() {
+        if rows.is_live_at(row) {
+            write_made(sink, row_line(alloc, names, rows, row))?;
+        }
+    }
+    Ok(())
+}
+
+/// Writes the finished text of the live rows.
+pub fn write_finished<K: Sink, R: Rows>(
+    alloc: Global,
+    sink: &mut K,
+    names: &Names,
+    rows: &R,
+) -> Result<(), Unwritten>
+    ensures written { IsWritten (change_of (K.taken sink.old) (K.taken sink.new) (K.faults sink.old) (K.faults sink.new)) (finished_text names.now (live_queries (R.value rows.now).rows)) result }
+    ensures later { K.faults sink.old ≤ K.faults sink.new }
+{
+    write_made(sink, finished_head(alloc, live_count(rows)))?;
+    write_live(alloc, sink, names, rows)
+}
+
+/// Writes the finished text of the live rows, and the answers.
+pub fn write_answered<K: Sink, R: Rows>(
+    alloc: Global,
+    sink: &mut K,
+    names: &Names,
+    rows: &R,
+    answers: &Answers,
+) -> Result<(), Unwritten>
+    requires { answers.now.names ≡ names.now }
+    ensures written { IsWritten (change_of (K.taken sink.old) (K.taken sink.new) (K.faults sink.old) (K.faults sink.new)) (answered_text names.now (live_queries (R.value rows.now).rows) answers.now.tuples) result }
+    ensures later { K.faults sink.old ≤ K.faults sink.new }
+{
+    write_finished(alloc, sink, names, rows)?;
+    write_text(alloc, sink, &AnswersText { answers })
+}
+
+/// How many atoms the queries of the live rows have together.
+pub fn atom_count<R: Rows>(rows: &R) -> u64
+    ensures count { result ≡ atom_count (live_queries (R.value rows.now).rows) }
+    ensures once { All (λ q. HasEachOnce q.atoms) (live_queries (R.value rows.now).rows) }
+{
+    let mut count: u64 = 0;
+    for row in 0..rows.count() {
+        if rows.is_live_at(row) {
+            count += rows.query_at(row).atoms().len() as u64;
+        }
+    }
+    count
+}
