@@ -1,5 +1,5 @@
 //! The finished text of a union, a line at a time, and of the live rows of a rewriting.
-ghost use Rattle.std.specs.Prelude.{◌≡◌, ◌<◌, ◌≤◌, ◌^◌, ◌++◌, ℕ, List, codes, length, slice_get, IfOk, Some};
+ghost use Rattle.std.specs.Prelude.{◌≡◌, ◌<◌, ◌≤◌, ◌^◌, ℕ, List, length, slice_get, IfOk, Some};
 ghost use Rattle.ucq_antichain.specs.Rows.{live_queries};
 ghost use Rattle.ucq_print.specs.Texts.{count_line, finished_lines};
 
@@ -50,10 +50,9 @@ pub fn live_count<R: Rows>(rows: &R) -> u32
     count
 }
 
-/// The lines before the queries of a finished text: what was found, and how many queries there are. The only error is want
-/// of memory.
-pub fn finished_head(alloc: Global, count: u32) -> Result<Vec<u8>, NoMemory>
-    ensures { IfOk result (λ head. head.items ≡ codes "% finished\n" ++ count_line count) }
+/// The line that tells how many queries there are. The only error is want of memory.
+pub fn query_count_line(alloc: Global, count: u32) -> Result<Vec<u8>, NoMemory>
+    ensures { IfOk result (λ line. line.items ≡ count_line count) }
 {
-    number_line(alloc, b"% finished\n% queries ", u64::from(count))
+    number_line(alloc, b"% queries ", u64::from(count))
 }

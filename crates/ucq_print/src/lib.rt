@@ -17,7 +17,7 @@ pub use answers::{
     summary_line_count,
 };
 pub use cuts::{cut_line, cut_line_count, row_line};
-pub use finished::{finished_head, finished_line, finished_line_count, live_count};
+pub use finished::{finished_line, finished_line_count, live_count, query_count_line};
 pub use queries::query_text;
 pub use refusals::refusal_text;
 pub use rows::Rows;

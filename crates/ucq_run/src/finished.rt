@@ -1,9 +1,9 @@
 //! The writing of what was found.
-ghost use Rattle.std.specs.Prelude.{All, ◌≡◌, ◌≤◌};
+ghost use Rattle.std.specs.Prelude.{All, ◌≡◌, ◌≤◌, ◌++◌, IfOk, codes};
 ghost use Rattle.ucq_terms.specs.Syntax.{HasEachOnce};
 ghost use Rattle.ucq_antichain.specs.Rows.{live_queries};
 ghost use Rattle.ucq_outside.specs.Taken.{change_of};
-ghost use Rattle.ucq_print.specs.Texts.{answered_text, atom_count, finished_text};
+ghost use Rattle.ucq_print.specs.Texts.{answered_text, atom_count, count_line, finished_text};
 ghost use Rattle.ucq_run.specs.Reading.{IsWritten};
 ghost use Rattle.ucq_run.specs.Written.{row_texts};
 
@@ -12,8 +12,8 @@ use crate::writing::{Unwritten, write_made, write_text};
 use std::alloc::Global;
 use ucq_eval::Answers;
 use ucq_outside::Sink;
-use ucq_print::{Rows, finished_head, live_count, row_line};
-use ucq_terms::Names;
+use ucq_print::{Rows, live_count, query_count_line, row_line};
+use ucq_terms::{Names, NoMemory};
 
 /// Writes the queries of the live rows, each on a line.
 fn write_live<K: Sink, R: Rows>(
@@ -33,6 +33,22 @@ fn write_live<K: Sink, R: Rows>(
     Ok(())
 }
 
+/// The line that tells that the union is finished.
+fn finished_mark(alloc: Global) -> Result<Vec<u8>, NoMemory>
+    ensures { IfOk result (λ line. line.items ≡ codes "% finished\n") }
+{
+    Ok(Vec::from_slice(alloc, b"% finished\n")?)
+}
+
+/// Writes the lines before the queries: what was found, and how many queries there are.
+fn write_head<K: Sink>(alloc: Global, sink: &mut K, count: u32) -> Result<(), Unwritten>
+    ensures written { IsWritten (change_of (K.taken sink.old) (K.taken sink.new) (K.faults sink.old) (K.faults sink.new)) (codes "% finished\n" ++ count_line count) result }
+    ensures later { K.faults sink.old ≤ K.faults sink.new }
+{
+    write_made(sink, finished_mark(alloc))?;
+    write_made(sink, query_count_line(alloc, count))
+}
+
 /// Writes the finished text of the live rows.
 pub fn write_finished<K: Sink, R: Rows>(
     alloc: Global,
@@ -43,7 +59,7 @@ pub fn write_finished<K: Sink, R: Rows>(
     ensures written { IsWritten (change_of (K.taken sink.old) (K.taken sink.new) (K.faults sink.old) (K.faults sink.new)) (finished_text names.now (live_queries (R.value rows.now).rows)) result }
     ensures later { K.faults sink.old ≤ K.faults sink.new }
 {
-    write_made(sink, finished_head(alloc, live_count(rows)))?;
+    write_head(alloc, sink, live_count(rows))?;
     write_live(alloc, sink, names, rows)
 }
 
