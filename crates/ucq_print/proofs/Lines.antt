@@ -22,15 +22,6 @@ slice_get-behind : {X : Type 0} (xs : List X) (y : X) → slice_get (xs ++ y ∷
 slice_get-behind [] y = refl
 slice_get-behind (x ∷ xs) y = slice_get-behind xs y
 
--- a query's line in the finished text
-pub query_at_place : (names : List (List ℕ)) (union : List Query) (place : ℕ) (q : Query) (line : List ℕ) → place ≢ 0 → place ≢ 1 →
-    slice_get union (place - 2) ≡ Some q → line ≡ query_line names q → slice_get (finished_lines names union) place ≡ Some line
-query_at_place names union zero q line other next h is = absurd (other refl)
-query_at_place names union (suc zero) q line other next h is = absurd (next refl)
-query_at_place names union (suc (suc k)) q line other next h is =
-    let same : k ≡ suc (suc k) - 2 = omega arith in
-    slice_get-map (query_line names) union k ∙ (ap (option_map (query_line names)) (ap (slice_get union) same ∙ h) ∙ ap Some (sym is))
-
 -- a row's line among those of the rows
 row_at_place : (names : List (List ℕ)) (rows : List Row) (row : ℕ) → row < length rows → slice_get (row_lines names rows) row ≡ Some (row_line names (row_at rows row))
 row_at_place names rows row h = slice_get-map (row_line names) rows row ∙ ap (option_map (row_line names)) (slice_get-get_or rows row no_row h)
@@ -74,17 +65,7 @@ lines_around lines k line h =
     (flat_map-append (λ l. l) (take k lines) (get_or lines k line ∷ drop (suc k) lines) ∙
     ap (λ l. lines_text (take k lines) ++ (l ++ lines_text (drop (suc k) lines))) (get_or_from_slice_get lines k line line h))
 
--- a tuple's line among the answers
-pub tuple_at_place : (names : List (List ℕ)) (tuples : List (List ℕ)) (place : ℕ) (tuple line : List ℕ) → place ≢ 0 → place < length (answer_lines names tuples) →
-    tuple ≡ get_or tuples (place - 1) tuple → line ≡ tuple_line names tuple → slice_get (answer_lines names tuples) place ≡ Some line
-tuple_at_place names tuples zero tuple line other h at is = absurd (other refl)
-tuple_at_place names tuples (suc k) tuple line other h at is =
-    let inside : k < length tuples = omega (arith, h, length-map tuples (tuple_line names)) in
-    let same : suc k - 1 ≡ k = omega arith in
-    let here : get_or tuples k tuple ≡ tuple = ap (λ (n : ℕ). get_or tuples n tuple) (sym same) ∙ sym at in
-    slice_get-map (tuple_line names) tuples k ∙ ap (option_map (tuple_line names)) (slice_get-get_or tuples k tuple inside) ∙ ap (λ (t : List ℕ). Some (tuple_line names t)) here ∙ ap Some (sym is)
-
--- the same where the tuple's text was made before
+-- a tuple's line among the answers, where its text was made before
 pub text_at_place : (names : List (List ℕ)) (tuples : List (List ℕ)) (place : ℕ) (text line : List ℕ) → place ≢ 0 → place < length (answer_lines names tuples) →
     ((tuple : List ℕ) → slice_get tuples (place - 1) ≡ Some tuple → text ≡ tuple_text names tuple) → line ≡ codes "% " ++ text ++ line_feed →
     slice_get (answer_lines names tuples) place ≡ Some line

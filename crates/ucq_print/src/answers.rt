@@ -1,11 +1,11 @@
 //! The texts of answers, and of the summary of a union and its answers, a line at a time.
-ghost use Rattle.std.specs.Prelude.{◌≡◌, ◌<◌, ◌≤◌, ◌^◌, ◌++◌, ℕ, List, length, slice_get, IfOk, Some, codes, decimal};
-ghost use Rattle.ucq_print.specs.Texts.{answer_count_line, answer_lines, atom_count_line, count_line as count_line_of, line_feed, summary_lines, tuple_line as tuple_line_of};
+ghost use Rattle.std.specs.Prelude.{◌≡◌, ◌<◌, ◌≤◌, ◌^◌, ◌++◌, ℕ, length, slice_get, IfOk, Some, codes, decimal};
+ghost use Rattle.ucq_print.specs.Texts.{answer_lines, line_feed, summary_lines};
 
 use itoa::Buffer;
 use std::alloc::Global;
-use ucq_eval::{Answers, Tuple, tuple_text};
-use ucq_terms::{Names, NoMemory};
+use ucq_eval::Answers;
+use ucq_terms::NoMemory;
 
 /// These bytes, the number and a line feed.
 pub(crate) fn number_line(alloc: Global, before: &[u8], number: u64) -> Result<Vec<u8>, NoMemory>
@@ -27,49 +27,17 @@ fn line_of_text(alloc: Global, text: &[u8]) -> Result<Vec<u8>, NoMemory>
     Ok(line)
 }
 
-/// A tuple on a line of its own.
-fn tuple_line(alloc: Global, names: &Names, tuple: &Tuple) -> Result<Vec<u8>, NoMemory>
-    ensures { IfOk result (λ line. line.items ≡ tuple_line_of names.now tuple.now) }
-{
-    let text = tuple_text(alloc, names, tuple)?;
-    line_of_text(alloc, text.as_slice())
-}
-
-/// How many lines the answers have.
-pub fn answer_line_count(tuples: &[Tuple]) -> u64
-    ensures lines { (names : List (List ℕ)) → result ≡ length (answer_lines names tuples.now) }
-    ensures few { result ≤ 2 ^ 63 }
-{
-    tuples.len() as u64 + 1
-}
-
-/// The line at this place of the answers, with its line feed: how many there are, and then each of them. The only error is
-/// want of memory.
-pub fn answer_line(
-    alloc: Global,
-    names: &Names,
-    tuples: &[Tuple],
-    place: u64,
-) -> Result<Vec<u8>, NoMemory>
-    requires { place < length (answer_lines names.now tuples.now) }
-    ensures { IfOk result (λ line. slice_get (answer_lines names.now tuples.now) place ≡ Some line.items) }
-{
-    match place {
-        0 => number_line(alloc, b"% answers ", tuples.len() as u64),
-        _ => tuple_line(alloc, names, &tuples[(place - 1) as usize]),
-    }
-}
-
 /// How many lines these answers have.
-pub fn kept_answer_line_count(answers: &Answers) -> u64
+pub fn answer_line_count(answers: &Answers) -> u64
     ensures lines { result ≡ length (answer_lines answers.now.names answers.now.tuples) }
     ensures few { result ≤ 2 ^ 63 }
 {
     answers.len() as u64 + 1
 }
 
-/// The line at this place of the answers, with its line feed, as `answer_line` gives it. No text of a tuple is made anew.
-pub fn kept_answer_line(alloc: Global, answers: &Answers, place: u64) -> Result<Vec<u8>, NoMemory>
+/// The line at this place of the answers, with its line feed: how many there are, and then each of them. No text of a tuple
+/// is made anew. The only error is want of memory.
+pub fn answer_line(alloc: Global, answers: &Answers, place: u64) -> Result<Vec<u8>, NoMemory>
     requires { place < length (answer_lines answers.now.names answers.now.tuples) }
     ensures { IfOk result (λ line. slice_get (answer_lines answers.now.names answers.now.tuples) place ≡ Some line.items) }
 {

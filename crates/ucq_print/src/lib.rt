@@ -12,12 +12,9 @@ mod queries;
 mod refusals;
 mod rows;
 
-pub use answers::{
-    answer_line, answer_line_count, kept_answer_line, kept_answer_line_count, summary_line,
-    summary_line_count,
-};
+pub use answers::{answer_line, answer_line_count, summary_line, summary_line_count};
 pub use cuts::{cut_line, cut_line_count, row_line};
-pub use finished::{finished_line, finished_line_count, live_count, query_count_line};
+pub use finished::{live_count, query_count_line};
 pub use queries::query_text;
 pub use refusals::refusal_text;
 pub use rows::Rows;

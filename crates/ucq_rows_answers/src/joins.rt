@@ -4,8 +4,9 @@ use crate::facts::facts_of;
 use std::alloc::Global;
 use std::process::Abort;
 use std::thread::Threads;
-use ucq_eval::{Tuple, answers, answers_split, tuple_text};
+use ucq_eval::{Tuple, answers, answers_split, answers_with_texts, tuple_text};
 use ucq_facts::Facts;
+use ucq_print::{answer_line, answer_line_count};
 use ucq_terms::{Names, NoMemory, Query, Union};
 use ucq_worked::{WorkedFault, query};
 
@@ -164,4 +165,42 @@ fn answers_stand_in_byte_order_of_their_texts(rt: HostRuntime) {
 fn a_tuple_has_its_numbers(rt: HostRuntime) {
     let pair = Tuple::new(sure(&rt, Vec::from_slice(rt.alloc(), &[1, 0])));
     holds(&rt, pair.names() == [1, 0].as_slice());
+}
+
+/// The lines of the answers.
+fn lines_of(
+    alloc: Global,
+    names: &Names,
+    union: &Union,
+    facts: &Facts,
+) -> Result<Vec<u8>, NoMemory> {
+    let answers = answers_with_texts(alloc, union, names, facts)?;
+    let mut text = Vec::new(alloc);
+    for place in 0..answer_line_count(&answers) {
+        text.extend_from_slice(answer_line(alloc, &answers, place)?.as_slice())?;
+    }
+    Ok(text)
+}
+
+/// Unions, facts, and the lines of their answers.
+const LINES: [(&str, &str, &str); 4] = [
+    ("?XY pXY", "pba paU pab", "% answers 2\n% (a,b)\n% (b,a)\n"),
+    ("?Xb pXb|?XX pXb", "pab", "% answers 2\n% (a,a)\n% (a,b)\n"),
+    ("? pXY", "pab pbU", "% answers 1\n% ()\n"),
+    ("?X pXX", "pab", "% answers 0\n"),
+];
+
+/// Asserts of unions over facts which lines their answers have.
+fn assert_lines(rt: &impl Abort, alloc: Global, names: &Names, rows: &[(&str, &str, &str)]) {
+    for (union, facts, wanted) in rows {
+        let (asked, held) = (union_of(rt, alloc, union), facts_of(rt, alloc, facts));
+        let found = sure(rt, lines_of(alloc, names, &asked, &held));
+        reads(rt, found.as_slice(), wanted, union);
+    }
+}
+
+#[test]
+fn answers_are_printed_a_line_at_a_time(rt: HostRuntime) {
+    let names = letters(&rt, rt.alloc());
+    assert_lines(&rt, rt.alloc(), &names, &LINES);
 }

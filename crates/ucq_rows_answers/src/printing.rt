@@ -4,13 +4,9 @@ ghost use Rattle.std.specs.Prelude.{◌≤◌, ◌^◌, length};
 use crate::asserts::{equal, reads, sure};
 use std::alloc::{AllocError, Global};
 use std::process::Abort;
-use ucq_eval::Tuple;
-use ucq_print::{
-    answer_line, answer_line_count, finished_line, finished_line_count, query_text, refusal_text,
-    summary_line, summary_line_count,
-};
+use ucq_print::{query_count_line, query_text, refusal_text, summary_line, summary_line_count};
 use ucq_reader::{Input, ReadFault, Whole, read_files};
-use ucq_terms::{Names, NoMemory, Query, Union};
+use ucq_terms::NoMemory;
 
 /// What one file stands for.
 fn read_one(alloc: Global, text: &str) -> Result<Input, ReadFault>
@@ -55,37 +51,6 @@ fn a_query_is_printed_in_the_input_format(rt: HostRuntime) {
     assert_printed(&rt, rt.alloc(), &QUERIES);
 }
 
-/// The lines of answers.
-fn answer_text(alloc: Global, names: &Names, tuples: &[Tuple]) -> Result<Vec<u8>, NoMemory> {
-    let mut text = Vec::new(alloc);
-    for place in 0..answer_line_count(tuples) {
-        text.extend_from_slice(answer_line(alloc, names, tuples, place)?.as_slice())?;
-    }
-    Ok(text)
-}
-
-/// A pair of names and a tuple of none.
-fn two_tuples(alloc: Global) -> Result<Vec<Tuple>, AllocError> {
-    let pair = Tuple::new(Vec::from_slice(alloc, &[0, 1])?);
-    Ok(vec![in alloc; pair, Tuple::new(Vec::new(alloc))]?)
-}
-
-#[test]
-fn answers_are_printed_a_line_at_a_time(rt: HostRuntime) {
-    let input = read(&rt, rt.alloc(), "? :- a(b).");
-    let tuples = sure(&rt, two_tuples(rt.alloc()));
-    let text = sure(
-        &rt,
-        answer_text(rt.alloc(), &input.names, tuples.as_slice()),
-    );
-    reads(
-        &rt,
-        text.as_slice(),
-        "% answers 2\n% (a,b)\n% ()\n",
-        "answers",
-    );
-}
-
 /// The lines of counts, of which there are four.
 fn summary_text(
     alloc: Global,
@@ -109,32 +74,11 @@ fn counts_are_printed_a_line_at_a_time(rt: HostRuntime) {
     reads(&rt, text.as_slice(), wanted, "counts");
 }
 
-/// The lines of a finished union.
-fn finished_text(alloc: Global, names: &Names, union: &Union) -> Result<Vec<u8>, NoMemory> {
-    let mut text = Vec::new(alloc);
-    for place in 0..finished_line_count(union) {
-        text.extend_from_slice(finished_line(alloc, names, union, place)?.as_slice())?;
-    }
-    Ok(text)
-}
-
-/// The union that has the query twice.
-fn twice(alloc: Global, query: &Query) -> Result<Union, NoMemory> {
-    let queries = vec![in alloc; query.copy()?, query.copy()?]?;
-    Ok(Union::new(queries))
-}
-
 #[test]
-fn a_union_is_printed_a_line_at_a_time(rt: HostRuntime) {
-    let input = read(&rt, rt.alloc(), "? :- p(X,Y), p(Y,Z).");
-    let union = sure(&rt, twice(rt.alloc(), &input.query));
-    let text = sure(&rt, finished_text(rt.alloc(), &input.names, &union));
-    reads(&rt, text.as_slice(), TWO_PATHS, "a union");
+fn the_number_of_queries_is_printed(rt: HostRuntime) {
+    let line = sure(&rt, query_count_line(rt.alloc(), 65_536));
+    reads(&rt, line.as_slice(), "% queries 65536\n", "a line");
 }
-
-/// A union that has a path of two edges twice.
-const TWO_PATHS: &str =
-    "% finished\n% queries 2\n? :- p(X0,X1), p(X1,X2).\n? :- p(X0,X1), p(X1,X2).\n";
 
 /// What two files stand for.
 fn read_two(alloc: Global, first: &str, second: &str) -> Result<Input, ReadFault>

@@ -6,7 +6,7 @@ ghost use Rattle.ucq_print.specs.Texts.{answer_lines, summary_lines};
 use std::alloc::Global;
 use ucq_eval::Answers;
 use ucq_print::{
-    Rows, cut_line, cut_line_count, kept_answer_line, kept_answer_line_count, summary_line,
+    Rows, cut_line, cut_line_count, answer_line, answer_line_count, summary_line,
     summary_line_count,
 };
 use ucq_terms::{Names, NoMemory};
@@ -36,11 +36,11 @@ impl Text for AnswersText<'_, '_> {
     ghost lines = { λ t. answer_lines t.answers.now.names t.answers.now.tuples };
 
     fn len(&self) -> u64 {
-        kept_answer_line_count(self.answers)
+        answer_line_count(self.answers)
     }
 
     fn line(&self, alloc: Global, place: u64) -> Result<Vec<u8>, NoMemory> {
-        kept_answer_line(alloc, self.answers, place)
+        answer_line(alloc, self.answers, place)
     }
 }
 

@@ -1,12 +1,11 @@
--- Marks of which none before a row is open.
-use Rattle.std.proofs.Common.{◌≡◌, ◌≢◌, ℕ, zero, suc, ◌+◌, ◌-◌, ◌<◌, ◌≤◌, inl, inr, refl, sym, List, [], ◌∷◌, ◌++◌, length, get_or, slice_set, arith, subst}
-use Rattle.std.proofs.lemmas.Bool.{cases_eq, cases_lt}
-use Rattle.std.proofs.lemmas.List.{get_or-set_other, get_or_append_left, get_or-append_right}
-use Rattle.std.proofs.lemmas.Grind.{get_or-set_at}
+-- Marks of which none before a row is open, and of which each before a row is settled.
+use Rattle.std.proofs.Common.{◌≡◌, ◌≢◌, ℕ, ◌≤◌, sym, List, [], ◌∷◌, ◌++◌, length, slice_set, arith, subst}
+use Rattle.std.proofs.lemmas.List.{get_or-set_other, get_or_append_left, length-set, length-append}
 use Rattle.ucq_store.specs.declared.Mark.{Mark}
-use Rattle.ucq_store.specs.declared.RowState.TheVariants.{Waiting, Open, Claimed}
-use Rattle.ucq_store.specs.Store.{NoneOpenBelow}
-use Rattle.ucq_store.specs.Calls.{IsFirstOpen}
+use Rattle.ucq_store.specs.declared.RowState.{RowState}
+use Rattle.ucq_store.specs.declared.RowState.TheVariants.{Waiting, Open, Claimed, Done, Skipped}
+use Rattle.ucq_store.specs.Store.{mark_at}
+use Rattle.ucq_store.specs.Marks.{NoneOpenBelow, IsSettled, AreSettledBelow}
 
 -- what a read past the marks gives
 abbrev no_mark : Mark
@@ -15,46 +14,45 @@ no_mark = record { depth = 0; state = Waiting }
 abbrev IsShut : Mark → Type 0
 IsShut m = m.state ≢ Open
 
-pub none_below_first : (marks : List Mark) → NoneOpenBelow marks 0
-none_below_first marks = record { each = λ k l. absurd (omega arith) }
-
--- a mark is written that isn't open
-pub none_below_shut : (marks : List Mark) (from row : ℕ) (m : Mark) → row < length marks → IsShut m → NoneOpenBelow marks from → NoneOpenBelow (slice_set marks row m) from
-none_below_shut marks from row m inside shut none = record {
-  each = λ k l. elim (cases_eq k row) [
-    | inl e ↦ subst IsShut (sym (get_or-set_at marks row k m no_mark e inside)) shut
-    | inr ne ↦ subst IsShut (sym (get_or-set_other marks row k m no_mark ne)) (none.each k l)
-  ];
-}
-
 -- a mark is written at a place that isn't before the row
-pub none_below_opened : (marks : List Mark) (from row least : ℕ) (m : Mark) → least ≤ from → least ≤ row → NoneOpenBelow marks from → NoneOpenBelow (slice_set marks row m) least
-none_below_opened marks from row least m low before none = record {
+pub none_below_written : (marks : List Mark) (from row least : ℕ) (m : Mark) → least ≤ from → least ≤ row →
+    NoneOpenBelow marks from → NoneOpenBelow (slice_set marks row m) least
+none_below_written marks from row least m low before none = record {
   each = λ k l.
       let differs : ¬ (k ≡ row) = λ e. omega arith in
       subst IsShut (sym (get_or-set_other marks row k m no_mark differs)) (none.each k (omega arith));
 }
 
--- the first open row is claimed
-pub none_below_claimed : (marks : List Mark) (row depth number : ℕ) → IsFirstOpen marks row → NoneOpenBelow (slice_set marks row (record { depth = depth; state = Claimed number })) (row + 1)
-none_below_claimed marks row depth number first = record {
-  each = λ k l. elim (cases_eq k row) [
-    | inl e ↦ subst IsShut (sym (get_or-set_at marks row k (record { depth = depth; state = Claimed number }) no_mark e first.within)) (λ bad. cc)
-    | inr ne ↦
-        subst IsShut (sym (get_or-set_other marks row k (record { depth = depth; state = Claimed number }) no_mark ne)) (first.first k (omega (arith, l, ne)))
-  ];
+pub settled_below_written : (marks : List Mark) (from row least : ℕ) (m : Mark) → least ≤ from → least ≤ row →
+    AreSettledBelow marks from → AreSettledBelow (slice_set marks row m) least
+settled_below_written marks from row least m low before settled = record {
+  within = omega (arith, length-set marks row m, settled.within);
+  each = λ k l.
+      let differs : ¬ (k ≡ row) = λ e. omega arith in
+      subst (λ (x : Mark). IsSettled x.state) (sym (get_or-set_other marks row k m no_mark differs)) (settled.each k (omega arith));
 }
 
-one_shut : (m : Mark) (k : ℕ) → IsShut m → IsShut (get_or (m ∷ []) k no_mark)
-one_shut m zero shut = shut
-one_shut m (suc k) shut = λ bad. cc
-
--- a mark is added that isn't open
-pub none_below_added : (marks : List Mark) (from : ℕ) (m : Mark) → IsShut m → NoneOpenBelow marks from → NoneOpenBelow (marks ++ m ∷ []) from
-none_below_added marks from m shut none = record {
-  each = λ k l. elim (cases_lt k (length marks)) [
-    | inl inside ↦ subst IsShut (sym (get_or_append_left marks (m ∷ []) no_mark k inside)) (none.each k l)
-    | inr past ↦
-        subst IsShut (sym (get_or-append_right marks (m ∷ []) (length marks) k no_mark refl (omega arith))) (one_shut m (k - length marks) shut)
-  ];
+-- a mark is added at the end
+pub none_below_added : (marks : List Mark) (from least : ℕ) (m : Mark) → least ≤ from → least ≤ length marks →
+    NoneOpenBelow marks from → NoneOpenBelow (marks ++ m ∷ []) least
+none_below_added marks from least m low within none = record {
+  each = λ k l. subst IsShut (sym (get_or_append_left marks (m ∷ []) no_mark k (omega arith))) (none.each k (omega arith));
 }
+
+pub settled_below_added : (marks : List Mark) (from least : ℕ) (m : Mark) → least ≤ from → least ≤ length marks →
+    AreSettledBelow marks from → AreSettledBelow (marks ++ m ∷ []) least
+settled_below_added marks from least m low within settled = record {
+  within = omega (arith, length-append marks (m ∷ []));
+  each = λ k l.
+      subst (λ (x : Mark). IsSettled x.state) (sym (get_or_append_left marks (m ∷ []) no_mark k (omega arith))) (settled.each k (omega arith));
+}
+
+settled_is_shut : (state : RowState) → IsSettled state → state ≢ Open
+settled_is_shut Waiting s = absurd s
+settled_is_shut Open s = absurd s
+settled_is_shut (Claimed number) s = absurd s
+settled_is_shut Done s = λ e. cc
+settled_is_shut Skipped s = λ e. cc
+
+pub none_below_settled : (marks : List Mark) (from : ℕ) → AreSettledBelow marks from → NoneOpenBelow marks from
+none_below_settled marks from settled = record { each = λ k l. settled_is_shut (mark_at marks k).state (settled.each k l) }

@@ -23,10 +23,6 @@ pub record Store : Type 0 where
   pub claims : ℕ
   pub cut : Option Cut
 
--- no row before that one is open
-pub record NoneOpenBelow (marks : List Mark) (row : ℕ) : Type 0 where
-  pub each : (earlier : ℕ) → earlier < row → (mark_at marks earlier).state ≢ Open
-
 abbrev pub IsRow : Store → ℕ → Type 0
 IsRow s row = row < length s.rows
 

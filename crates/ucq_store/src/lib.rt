@@ -6,12 +6,14 @@
 
 use ucq_terms::Query;
 
+mod candidates;
 pub mod laws;
 mod marks;
 mod reports;
 mod store;
 
-pub use reports::{Candidate, Report};
+pub use candidates::Candidate;
+pub use reports::Report;
 pub use store::Store;
 
 /// Where a row's work stands.

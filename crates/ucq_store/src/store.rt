@@ -10,10 +10,9 @@ ghost use Rattle.ucq_store.specs.Lawful.{IsLawfulByLevels, IsLeftOver, IsTooWide
 ghost use Rattle.ucq_store.specs.Changes.{with_state, with_cut, IsExhausted};
 ghost use Rattle.ucq_store.specs.Calls.{IsNew, DoesClaim, DoesRelease, DoesReopen, DoesRaise, IsOffered, DoesTake, DoesPublish};
 
-use crate::marks::{
-    does_any_wait, first_open, is_any_in_work, is_claimed_under, open_claimed, push_mark, raise,
-};
-use crate::reports::{Candidate, Report};
+use crate::candidates::Candidate;
+use crate::marks::{Marks, is_claimed_under};
+use crate::reports::Report;
 use crate::{Claim, Cut, Mark, Published, Released, RowState};
 use std::alloc::Global;
 use std::marker::Model;
@@ -27,25 +26,22 @@ use ucq_terms::{NoMemory, Problem, Query, Union};
 pub struct Store<'p> {
     problem: &'p Problem,
     antichain: Antichain,
-    marks: Vec<Mark>,
+    marks: Marks,
     level: u32,
     claims: u64,
     cut: Option<Cut>,
-    // no row before it is open
-    open_from: u32,
 }
 
 impl<'p> Model for Store<'p> {
     ghost use Rattle.std.specs.Prelude.{◌≤◌};
-    ghost use Rattle.std.specs.Vec.{vec_capacity};
-    ghost use Rattle.ucq_store.specs.Store.{Store as StoreValue, NoneOpenBelow};
+    ghost use Rattle.ucq_store.specs.Store.{Store as StoreValue};
     ghost use Rattle.ucq_store.specs.Lawful.{IsLawfulByLevels};
 
     ghost Value = { StoreValue };
 
     ghost view = { λ s. record { problem = s.problem.now; budget = s.antichain.budget; rows = s.antichain.rows; marks = s.marks.items; level = s.level; claims = s.claims; cut = s.cut } };
 
-    ghost invariant = { λ s. IsLawfulByLevels (record { problem = s.problem.now; budget = s.antichain.budget; rows = s.antichain.rows; marks = s.marks.items; level = s.level; claims = s.claims; cut = s.cut }) × (s.antichain.budget ≤ 65536) × (s.antichain.budget ≤ vec_capacity s.marks) × NoneOpenBelow s.marks.items s.open_from };
+    ghost invariant = { λ s. IsLawfulByLevels (record { problem = s.problem.now; budget = s.antichain.budget; rows = s.antichain.rows; marks = s.marks.items; level = s.level; claims = s.claims; cut = s.cut }) × (s.antichain.budget ≤ 65536) × (s.antichain.budget ≤ s.marks.room) };
 }
 
 impl<'p> Store<'p> {
@@ -66,12 +62,11 @@ impl<'p> Store<'p> {
         shrink(space, &mut core);
         let mut antichain = Antichain::new(alloc, budget)?;
         let _ = antichain.add(space, core);
-        let mut marks = Vec::with_capacity(alloc, budget as usize)?;
-        let mark = Mark {
+        let mut marks = Marks::with_capacity(alloc, budget)?;
+        marks.push(Mark {
             depth: 0,
             state: RowState::Open,
-        };
-        push_mark(&mut marks, mark);
+        });
         Ok(Store {
             problem,
             antichain,
@@ -79,7 +74,6 @@ impl<'p> Store<'p> {
             level: 0,
             claims: 0,
             cut: None,
-            open_from: 0,
         })
     }
 
@@ -151,7 +145,7 @@ impl<'p> Store<'p> {
         requires { IsRow self.now row }
         ensures { result ≡ depth_in self.now row }
     {
-        self.marks[row as usize].depth
+        self.marks.of(row).depth
     }
 
     /// Where a row's work stands.
@@ -159,7 +153,7 @@ impl<'p> Store<'p> {
         requires { IsRow self.now row }
         ensures { result ≡ state_in self.now row }
     {
-        self.marks[row as usize].state
+        self.marks.of(row).state
     }
 
     /// Claims the first open row, under the number of claims given before. `None` comes where the store is cut, no row is
@@ -171,13 +165,11 @@ impl<'p> Store<'p> {
         if self.cut.is_some() || self.claims == u64::MAX {
             return None;
         }
-        let Some(row) = first_open(self.marks.as_slice(), self.open_from) else {
-            self.open_from = self.marks.len() as u32;
+        let Some(row) = self.marks.first_open() else {
             return None;
         };
         let number = self.claims;
-        self.marks[row as usize].state = RowState::Claimed { number };
-        self.open_from = row + 1;
+        self.marks.set_state(row, RowState::Claimed { number });
         self.claims = number + 1;
         Some(Claim { row, number })
     }
@@ -186,16 +178,14 @@ impl<'p> Store<'p> {
     pub fn release(&mut self, claim: Claim) -> Released
         ensures { DoesRelease self.old claim result self.new }
     {
-        let row = claim.row as usize;
-        if row >= self.marks.len() {
+        if claim.row >= self.antichain.len() {
             return Released::Strange { state: None };
         }
-        let state = self.marks[row].state;
+        let state = self.marks.of(claim.row).state;
         if !is_claimed_under(state, claim.number) {
             return Released::Strange { state: Some(state) };
         }
-        self.marks[row].state = RowState::Open;
-        self.open_from = self.open_from.min(claim.row);
+        self.marks.set_state(claim.row, RowState::Open);
         Released::Opened
     }
 
@@ -203,8 +193,7 @@ impl<'p> Store<'p> {
     pub fn reopen(&mut self)
         ensures { DoesReopen self.old self.new }
     {
-        open_claimed(self.marks.as_mut_slice());
-        self.open_from = 0;
+        self.marks.reopen();
     }
 
     /// Takes a report on a claimed row. Its candidates are taken in order: each becomes a waiting row one level deeper, or
@@ -266,13 +255,12 @@ impl<'p> Store<'p> {
         ensures { DoesRaise self.old result self.new }
     {
         if self.cut.is_some()
-            || is_any_in_work(self.marks.as_slice())
-            || !does_any_wait(&self.antichain, self.marks.as_slice())
+            || self.marks.is_any_in_work()
+            || !self.marks.does_any_wait(&self.antichain)
         {
             return false;
         }
-        raise(&self.antichain, self.marks.as_mut_slice());
-        self.open_from = 0;
+        self.marks.raise(&self.antichain);
         self.level += 1;
         true
     }
@@ -282,10 +270,10 @@ impl<'p> Store<'p> {
         ensures finished { IsTrue result ↔ IsFinished self.now }
         ensures lawful { IsLawfulByLevels self.now }
     {
-        if self.cut.is_some() || is_any_in_work(self.marks.as_slice()) {
+        if self.cut.is_some() || self.marks.is_any_in_work() {
             return false;
         }
-        !does_any_wait(&self.antichain, self.marks.as_slice())
+        !self.marks.does_any_wait(&self.antichain)
     }
 
     /// Copies of the queries of the live rows of a finished store, in order. Want of memory is the one error.
@@ -330,11 +318,10 @@ impl<'p> Store<'p> {
             Added::Full { query } => Some(query),
             Added::Added { row, pruned: _ } => {
                 candidate.place(row);
-                let mark = Mark {
+                self.marks.push(Mark {
                     depth: self.level + 1,
                     state: RowState::Waiting,
-                };
-                push_mark(&mut self.marks, mark);
+                });
                 None
             }
         }
@@ -347,7 +334,7 @@ impl<'p> Store<'p> {
         requires exhausted { IsExhausted self.old row }
         ensures { self.new ≡ with_state self.old row RowState.Done }
     {
-        self.marks[row as usize].state = RowState::Done;
+        self.marks.set_state(row, RowState::Done);
     }
 
     // Cuts the store at a core for which there is no room.

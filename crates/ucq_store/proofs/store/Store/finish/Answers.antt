@@ -1,8 +1,7 @@
-use Rattle.std.proofs.Common.{◌≡◌, sym, arith, subst}
+use Rattle.std.proofs.Common.{◌≡◌, sym, subst}
 use Rattle.ucq_store.specs.Store.{Store, IsRow, depth_of}
 use Rattle.ucq_store.specs.Changes.{IsExhausted}
-use Rattle.ucq_store.proofs.Steps.{finished_row}
-use Rattle.ucq_store.proofs.Opens.{none_below_shut}
+use Rattle.ucq_store.proofs.OneState.{done_keeps}
 use Rattle.ucq_store.proofs.store.Store.finish.Goals as goal
 
 pub invariant_of-self : goal.invariant_of-self
@@ -12,4 +11,4 @@ invariant_of-self c =
     let l : IsRow s c.args.row = subst (λ (v : Store). IsRow v c.args.row) (sym c.self.view_is) c.requires.row in
     let at : depth_of s c.args.row ≡ s.level = subst (λ (v : Store). depth_of v c.args.row ≡ v.level) (sym c.self.view_is) c.requires.level in
     let all : IsExhausted s c.args.row = subst (λ (v : Store). IsExhausted v c.args.row) (sym c.self.view_is) c.requires.exhausted in
-    (finished_row s c.args.row c.index_mut.result.now l at all c.index_mut.ensures.value c.self.invariant.0, c.self.invariant.1, c.self.invariant.2, none_below_shut s.marks f.open_from c.args.row _ (omega arith) (λ bad. cc) c.self.invariant.3)
+    rw c.set_state.ensures ((done_keeps s c.args.row l at all).by_levels c.self.invariant.0, c.self.invariant.1, c.self.invariant.2)

@@ -1,10 +1,9 @@
-use Rattle.std.proofs.Common.{◌≡◌, ℕ, refl, sym, ap, ◌∙◌, List, Bool, true, false, not, subst}
+use Rattle.std.proofs.Common.{◌≡◌, ℕ, refl, sym, ap, ◌∙◌, Bool, true, false, not, subst}
 use Rattle.std.specs.Option.{is_some}
-use Rattle.ucq_store.specs.declared.Mark.{Mark}
 use Rattle.ucq_store.specs.declared.RowState.TheVariants.{Waiting}
-use Rattle.ucq_store.specs.Store.{Store, mark_at, IsLive, state_of, IsFinished}
+use Rattle.ucq_store.specs.Store.{Store, IsLive, state_of, IsFinished}
 use Rattle.ucq_store.proofs.Live.{live_is_row}
-use Rattle.ucq_store.proofs.Steps.{idle_marks, none_from, some_in_work}
+use Rattle.ucq_store.proofs.Steps.{idle_rows, none_from, some_in_work}
 use Rattle.ucq_store.proofs.store.Store.is_finished.Goals.{then-is_some-via-then-is_some, then-is_some-via-else-is_some+then-is_any_in_work}
 use Rattle.ucq_store.proofs.store.Store.is_finished.Goals as goal
 
@@ -23,8 +22,7 @@ returns-then-is_some-clause-finished c =
           absurd (elim c.then-is_some.branch [
             | then-is_some-via-then-is_some w ↦ let bad : true ≡ false = w.if-is_some.ensures ∙ ap is_some now.uncut in cc
             | then-is_some-via-else-is_some+then-is_any_in_work w ↦
-                some_in_work s.rows s.marks w.as_slice.result.now w.as_slice.ensures.value c.self.invariant.0.lawful.marks_fit now.none_in_work
-                (w.if-is_any_in_work.ensures.0 refl)
+                some_in_work s.rows s.marks c.self.invariant.0.lawful.marks_fit now.none_in_work (w.if-is_any_in_work.ensures.0 refl)
           ]),
     )
 
@@ -32,9 +30,9 @@ pub returns-clause-finished : goal.returns-clause-finished
 returns-clause-finished c =
     let f = c.self.inside in
     let s : Store = record { problem = f.problem.now; budget = f.antichain.budget; rows = f.antichain.rows; marks = f.marks.items; level = f.level; claims = f.claims; cut = f.cut } in
-    let idle = idle_marks s.rows s.marks c.as_slice.result.now c.as_slice.ensures.value c.self.invariant.0.lawful.marks_fit c.if-is_any_in_work.ensures.1 in
+    let idle = idle_rows s.rows s.marks c.self.invariant.0.lawful.marks_fit c.if-is_any_in_work.ensures.1 in
     let waiting : (row : ℕ) → IsLive s row → state_of s row ≡ Waiting → c.does_any_wait.result ≡ true = λ row live e.
-    c.does_any_wait.ensures.1 (row, live_is_row s.rows row live, live, subst (λ (ms : List Mark). (mark_at ms row).state ≡ Waiting) (sym c.as_slice-2.ensures.value) e) in (
+    c.does_any_wait.ensures.1 (row, live_is_row s.rows row live, live, e) in (
       λ none. subst IsFinished c.self.view_is (record {
         uncut = none_from f.cut c.if-is_some.ensures;
         none_in_work = idle;
@@ -42,7 +40,5 @@ returns-clause-finished c =
       }),
       λ end.
           let now : IsFinished s = subst IsFinished (sym c.self.view_is) end in
-          not_from c.does_any_wait.result (λ e.
-          let (row, l, live, waits) = c.does_any_wait.ensures.0 e in
-          now.no_live_waits row live (subst (λ (ms : List Mark). (mark_at ms row).state ≡ Waiting) c.as_slice-2.ensures.value waits)),
+          not_from c.does_any_wait.result (λ e. let (row, l, live, waits) = c.does_any_wait.ensures.0 e in now.no_live_waits row live waits),
     )

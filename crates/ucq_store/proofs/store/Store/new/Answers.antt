@@ -11,31 +11,30 @@ use Rattle.ucq_store.specs.Lawful.{IsLawfulByLevels}
 use Rattle.ucq_store.specs.Changes.{new_store}
 use Rattle.ucq_store.proofs.Beginning.{new_is_lawful}
 use Rattle.ucq_store.proofs.First.{live_row, first_row, first_is_sound_core}
-use Rattle.ucq_store.proofs.Opens.{none_below_first}
 use Rattle.ucq_store.proofs.store.Store.new.Goals as goal
 
 abbrev first_mark : Mark
 first_mark = record { depth = 0; state = Open }
 
 -- the rows, and the marks, are one
-rows_are : (c : goal.After-push_mark) → c.add.new.self ≡ record { budget = c.args.budget; rows = live_row c.shrink.new.query ∷ [] }
+rows_are : (c : goal.After-push) → c.add.new.self ≡ record { budget = c.args.budget; rows = live_row c.shrink.new.query ∷ [] }
 rows_are c =
     first_row c.args.budget c.shrink.new.query c.add.result c.add.new.self c.requires.some
     (subst (λ (k : Kept). DoesAdd k c.shrink.new.query c.add.result c.add.new.self) c.in_ok-antichain.ensures c.add.ensures.does)
 
-marks_are : (c : goal.After-push_mark) → c.push_mark.new.marks.items ≡ first_mark ∷ []
-marks_are c = c.push_mark.ensures.items ∙ ap (λ (ms : List Mark). ms ++ first_mark ∷ []) c.in_ok-marks.ensures.items
+marks_are : (c : goal.After-push) → c.push.new.self.items ≡ first_mark ∷ []
+marks_are c = c.push.ensures.items ∙ ap (λ (ms : List Mark). ms ++ first_mark ∷ []) c.in_ok-marks.ensures.0
 
-asked : (c : goal.After-push_mark) → c.in_ok-core.core ≡ c.args.problem.now.query
+asked : (c : goal.After-push) → c.in_ok-core.core ≡ c.args.problem.now.query
 asked c = c.in_ok-core.ensures ∙ c.query.ensures
 
-shrunk : (c : goal.After-push_mark) → IsCoreOf c.args.problem.now.query c.shrink.new.query
+shrunk : (c : goal.After-push) → IsCoreOf c.args.problem.now.query c.shrink.new.query
 shrunk c = subst (λ (q : Query). IsCoreOf q c.shrink.new.query) (asked c) c.shrink.ensures.core
 
-made : (c : goal.After-push_mark) → Kept → List Mark → Store
+made : (c : goal.After-push) → Kept → List Mark → Store
 made c k marks = record { problem = c.args.problem.now; budget = k.budget; rows = k.rows; marks = marks; level = 0; claims = 0; cut = None }
 
-is_new : (c : goal.After-push_mark) → made c c.add.new.self c.push_mark.new.marks.items ≡ new_store c.args.problem.now c.args.budget c.shrink.new.query
+is_new : (c : goal.After-push) → made c c.add.new.self c.push.new.self.items ≡ new_store c.args.problem.now c.args.budget c.shrink.new.query
 unfolding made
 is_new c = ap₂ (λ (k : Kept) (ms : List Mark). made c k ms) (rows_are c) (marks_are c)
 
@@ -51,8 +50,7 @@ invariant_of-result c =
     let budget : c.add.new.self.budget ≡ c.args.budget = ap (λ (k : Kept). k.budget) (rows_are c) in (
       subst IsLawfulByLevels (sym (is_new c)) law,
       omega (arith, c.requires.small),
-      omega (arith, c.push_mark.ensures.capacity, c.in_ok-marks.ensures.capacity),
-      none_below_first c.push_mark.new.marks.items,
+      omega (arith, c.push.ensures.room, c.in_ok-marks.ensures.1),
     )
 
 pub returns : goal.returns

@@ -1,18 +1,15 @@
-use Rattle.std.proofs.Common.{List, ◌≡◌, ◌+◌, ◌≤◌, Some, None, refl, sym, ap, ◌∙◌, arith, subst}
+use Rattle.std.proofs.Common.{◌≡◌, ◌+◌, ◌≤◌, Some, None, refl, sym, ap, ◌∙◌, arith, subst}
 use Rattle.ucq_antichain.specs.Rows.{Kept}
-use Rattle.ucq_store.specs.declared.Mark.{Mark}
-use Rattle.ucq_store.specs.declared.RowState.TheVariants.{Waiting}
-use Rattle.ucq_store.specs.Store.{Store, NoneOpenBelow}
+use Rattle.ucq_store.specs.Store.{Store}
 use Rattle.ucq_store.specs.Lawful.{IsLeftOver}
 use Rattle.ucq_store.specs.Candidates.{Candidate, used, HoldsCore}
 use Rattle.ucq_store.specs.Calls.{IsOffered, DoesTake}
 use Rattle.ucq_store.proofs.Steps.{depth_fits}
 use Rattle.ucq_store.proofs.Offered.{with_rows, holds_core, known_is_taken, over, added_is_lawful, added_is_taken}
-use Rattle.ucq_store.proofs.Opens.{none_below_added}
 use Rattle.ucq_store.proofs.store.Store.take.Goals as goal
 
-pub overflow_add-mark : goal.overflow_add-mark
-overflow_add-mark c =
+pub overflow_add-self-inside : goal.overflow_add-self-inside
+overflow_add-self-inside c =
     let f = c.self.inside in
     let s : Store = record { problem = f.problem.now; budget = f.antichain.budget; rows = f.antichain.rows; marks = f.marks.items; level = f.level; claims = f.claims; cut = f.cut } in
     let o : IsOffered s c.args.candidate.now = subst (λ (v : Store). IsOffered v c.args.candidate.now) (sym c.self.view_is) c.requires in
@@ -28,10 +25,9 @@ invariant_of-self-in-Added c =
     let adds = c.in-Added.ensures.does in
     let budget : c.add.new.self.budget ≡ f.antichain.budget = adds.budget in
     let small : f.antichain.budget ≤ 65536 = c.self.invariant.1 in (
-      added_is_lawful s c.args.candidate.now c.in_ok-core.core o held c.in-Added.row c.in-Added.pruned c.add.new.self c.push_mark.new.marks.items adds c.push_mark.ensures.items c.in-Added.ensures.stored c.self.invariant.0,
+      added_is_lawful s c.args.candidate.now c.in_ok-core.core o held c.in-Added.row c.in-Added.pruned c.add.new.self c.push.new.self.items adds c.push.ensures.items c.in-Added.ensures.stored c.self.invariant.0,
       omega arith,
-      omega (arith, c.push_mark.ensures.capacity, c.self.invariant.2),
-      subst (λ (ms : List Mark). NoneOpenBelow ms f.open_from) (sym c.push_mark.ensures.items) (none_below_added f.marks.items f.open_from (record { depth = s.level + 1; state = Waiting }) (λ bad. cc) c.self.invariant.3),
+      omega (arith, c.push.ensures.room, c.self.invariant.2),
     )
 
 pub returns-then-is_known-clause-does : goal.returns-then-is_known-clause-does
@@ -50,9 +46,9 @@ returns-clause-does c =
     let s : Store = record { problem = f.problem.now; budget = f.antichain.budget; rows = f.antichain.rows; marks = f.marks.items; level = f.level; claims = f.claims; cut = f.cut } in
     let o : IsOffered s c.args.candidate.now = subst (λ (v : Store). IsOffered v c.args.candidate.now) (sym c.self.view_is) c.requires in
     let placed : c.place.new.self ≡ used (Some c.in-Added.row) = c.place.ensures ∙ ap (λ (x : Candidate). let y : Candidate = record { core = x.core; evidence = x.evidence; placed = Some c.in-Added.row } in y) c.take.ensures.left in
-    let after : Store = with_rows s c.add.new.self c.push_mark.new.marks.items in
+    let after : Store = with_rows s c.add.new.self c.push.new.self.items in
     let does : DoesTake s c.args.candidate.now None after (used (Some c.in-Added.row)) =
-    added_is_taken s c.args.candidate.now c.in_ok-core.core o c.in_ok-core.ensures.core c.in-Added.row c.in-Added.pruned c.add.new.self c.push_mark.new.marks.items c.in-Added.ensures.does c.push_mark.ensures.items in
+    added_is_taken s c.args.candidate.now c.in_ok-core.core o c.in_ok-core.ensures.core c.in-Added.row c.in-Added.pruned c.add.new.self c.push.new.self.items c.in-Added.ensures.does c.push.ensures.items in
     subst (λ (v : Store). DoesTake v c.args.candidate.now None after c.place.new.self) c.self.view_is
     (subst (λ (x : Candidate). DoesTake s c.args.candidate.now None after x) (sym placed) does)
 

@@ -1,6 +1,6 @@
 use Rattle.std.proofs.Common.{arith}
 use Rattle.ucq_store.proofs.Delivered.{none_taken, next, read_next, offered_here, one_more_taken, then_left}
-use Rattle.ucq_store.proofs.reports.take_all.Goals as goal
+use Rattle.ucq_store.proofs.candidates.take_all.Goals as goal
 
 pub loop-place-init : goal.loop-place-init
 loop-place-init c = record { clear = λ h. h; taken = none_taken c.args.store.now c.args.row c.args.candidates.now c.requires }

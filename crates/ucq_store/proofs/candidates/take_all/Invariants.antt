@@ -1,6 +1,6 @@
 use Rattle.ucq_hom.specs.Space.{IsClear}
 use Rattle.ucq_store.proofs.Delivered.{AreTakenBefore}
-use Rattle.ucq_store.proofs.reports.take_all.Given as goal
+use Rattle.ucq_store.proofs.candidates.take_all.Given as goal
 
 abbrev pub invariant-loop-place : goal.invariant-loop-place
 invariant-loop-place l = record {
