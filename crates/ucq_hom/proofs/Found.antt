@@ -8,11 +8,9 @@ use Rattle.ucq_terms.specs.declared.Term.{Term}
 use Rattle.ucq_terms.specs.declared.Term.TheVariants.{Variable}
 use Rattle.ucq_terms.specs.Syntax.{Atom, atom_image}
 use Rattle.ucq_terms.specs.Unifier.{atom_at}
-use Rattle.std.specs.Int.{bit_at}
-use Rattle.ucq_terms.specs.declared.TheConstants.{ATOMS}
 use Rattle.ucq_terms.proofs.Decide.{atom_path}
 use Rattle.ucq_terms.proofs.Images.{atom_image-agree}
-use Rattle.ucq_hom.specs.Levels.{ExtendsAt, HasLevelsOf, IsNoted, IsWithin, KeepsLevels}
+use Rattle.ucq_hom.specs.Levels.{Counts, ExtendsAt, HasLevelsOf, IsNoted, IsWithin, KeepsLevels}
 use Rattle.ucq_hom.proofs.Noted.{IsDeeper, IsDeeper-noted, ExtendsAt-less, ExtendsAt-matched, ExtendsAt-jump, HasLevelsOf-within, patched, patched-same, Extends-patched}
 use Rattle.ucq_terms.proofs.Lists.{Contains-first, Contains-rest, Contains-cons_cases, Contains-empty}
 use Rattle.ucq_terms.proofs.Subsets.{OccursIn-at}
@@ -129,10 +127,10 @@ IsBlocked-all b levels set from place rest to skip p = record {
 
 -- the rest is blocked whatever the atom's image
 pub IsBlocked-jump : (b c : Bound) (levels deep : List ℕ) (level deeper : ℕ) (from : List Atom) (place : ℕ) (rest : List ℕ) (targets : List Atom) →
-    IsDeeper b c levels deep level → Grown b c → level < ATOMS → ¬ (bit_at deeper level ≡ 1) → IsBlocked c deep deeper from rest targets →
+    IsDeeper b c levels deep level → Grown b c → ¬ Counts deeper level → IsBlocked c deep deeper from rest targets →
     IsBlocked b levels deeper from (place ∷ rest) targets
-IsBlocked-jump b c levels deep level deeper from place rest targets d g l n k = record {
-  none = λ h e s. k.none h (ExtendsAt-jump b c levels deep level deeper h d g l n e) (Sends-rest h from place rest targets s);
+IsBlocked-jump b c levels deep level deeper from place rest targets d g n k = record {
+  none = λ h e s. k.none h (ExtendsAt-jump b c levels deep level deeper h d g n e) (Sends-rest h from place rest targets s);
 }
 
 -- One atom matched: facts of the bindings and the levels then, from what the loop keeps.

@@ -1,7 +1,6 @@
 -- Levels of variables, and sets of them.
 use Rattle.std.proofs.Common.{◌≡◌, ◌≢◌, ℕ, ◌+◌, ◌<◌, List, [], ◌∷◌, ◌++◌, length, take, drop, set, get_or, Option, Some, None, Contains, refl, sym, ap, ◌∙◌, subst, inl, inr, arith}
 use Rattle.std.specs.Option.{IsSome}
-use Rattle.std.specs.Int.{bit_at}
 use Rattle.std.specs.Int.Bits.{bit_or}
 use Rattle.std.proofs.lemmas.Bool.{cases_eq}
 use Rattle.std.proofs.lemmas.Nat.Bits.{bit_at_or, bit_at-lt}
@@ -11,7 +10,7 @@ use Rattle.std.proofs.Math.Decide.{ℕ_discrete}
 use Rattle.std.proofs.Math.Seq.{drop-append_seam}
 use Rattle.ucq_terms.specs.declared.Term.{Term}
 use Rattle.ucq_terms.specs.declared.Term.TheVariants.{Variable}
-use Rattle.ucq_terms.specs.declared.TheConstants.{ATOMS, VARIABLES}
+use Rattle.ucq_terms.specs.declared.TheConstants.{VARIABLES}
 use Rattle.ucq_terms.specs.Syntax.{terms_image}
 use Rattle.ucq_terms.proofs.Decide.{dec_contains}
 use Rattle.ucq_terms.proofs.Images.{terms_image-agree}
@@ -153,15 +152,12 @@ ExtendsAt-matched b c old new level set deeper terms targets h d m l w e q =
     }
 
 -- and so does any map that agrees, where the deeper levels leave out the atom's own
-pub ExtendsAt-jump : (b c : Bound) (old new : List ℕ) (level deeper : ℕ) (h : ℕ → Term) → IsDeeper b c old new level → Grown b c → level < ATOMS →
-    ¬ (bit_at deeper level ≡ 1) → ExtendsAt h b old deeper → ExtendsAt h c new deeper
-ExtendsAt-jump b c old new level deeper h d g l n e = record {
+pub ExtendsAt-jump : (b c : Bound) (old new : List ℕ) (level deeper : ℕ) (h : ℕ → Term) → IsDeeper b c old new level → Grown b c →
+    ¬ Counts deeper level → ExtendsAt h b old deeper → ExtendsAt h c new deeper
+ExtendsAt-jump b c old new level deeper h d g n e = record {
   agrees = λ v t i k. elim (some_or_none (image b.images v)) [
     | inr free ↦
-        elim (subst (Counts deeper) (d.fresh v (subst (λ (x : Option Term). IsSome x) (sym i) refl) free) k) [
-          | inl above ↦ absurd (omega arith)
-          | inr bit ↦ absurd (n bit)
-        ]
+        absurd (n (subst (Counts deeper) (d.fresh v (subst (λ (x : Option Term). IsSome x) (sym i) refl) free) k))
     | inl s ↦
         let (u, r) = the_value s in
         let same : u ≡ t = let both : Some u ≡ Some t = sym (Grown-kept b c v u g r) ∙ i in cc in

@@ -3,7 +3,7 @@ use Rattle.std.specs.Prelude.{◌≡◌, ℕ, ◌≤◌, List, Some, IsSome, Con
 use Rattle.std.specs.Int.{bit_at}
 use Rattle.ucq_terms.specs.declared.Term.{Term}
 use Rattle.ucq_terms.specs.declared.Term.TheVariants.{Variable}
-use Rattle.ucq_terms.specs.declared.TheConstants.{ATOMS}
+use Rattle.ucq_hom.specs.declared.levels.TheConstants.{LEVELS}
 use Rattle.ucq_hom.specs.Space.{image}
 use Rattle.ucq_hom.specs.Bindings.{Bound}
 
@@ -11,9 +11,9 @@ use Rattle.ucq_hom.specs.Bindings.{Bound}
 abbrev pub level_of : List ℕ → ℕ → ℕ
 level_of levels v = slice_index levels v
 
--- the level is one of the set, whose levels are the bits of a number, or it is no atom's
+-- the level is one of the set: those below `LEVELS` are the bits of a number, and every set has all others
 abbrev pub Counts : ℕ → ℕ → Type 0
-Counts set level = (ATOMS ≤ level) ⊎ (bit_at set level ≡ 1)
+Counts set level = (LEVELS ≤ level) ⊎ (bit_at set level ≡ 1)
 
 -- each level of the first set is one of the second
 pub record IsWithin (set whole : ℕ) : Type 0 where

@@ -1,22 +1,24 @@
 //! Levels of variables, and sets of levels. The level of a variable is the place, in the order of a search, of the atom
-//! that bound it; a variable that was bound before the atoms has the level `ATOMS`. A set has a bit for each atom's level.
+//! that bound it; a variable that was bound before the atoms has the level `ATOMS`. A set has a bit for each
+//! level below `LEVELS`, and all others.
 ghost use Rattle.std.specs.Prelude.{◌≡◌, ◌<◌, ◌≤◌, ◌↔◌, ℕ, drop, length, Contains, IsSome, IsTrue};
-ghost use Rattle.std.specs.Int.{bit_at};
 ghost use Rattle.ucq_terms.specs.declared.Term.TheVariants.{Variable};
-ghost use Rattle.ucq_terms.specs.declared.TheConstants.{ATOMS, VARIABLES};
+ghost use Rattle.ucq_terms.specs.declared.TheConstants.{VARIABLES};
 ghost use Rattle.ucq_hom.specs.Space.{image};
 ghost use Rattle.ucq_hom.specs.Levels.{Counts, HasLevelsOf, IsNoted, IsWithin, level_of};
 ghost use Rattle.ucq_hom.specs.Search.{HasLowTerms};
 
 use crate::bindings::Bindings;
-use ucq_terms::{ATOMS, Term};
+use ucq_terms::Term;
+
+/// How many levels a set tells apart. Every set is taken to have all others, so that nothing jumps past their atoms.
+pub const LEVELS: u32 = 128;
 
 /// Whether the level is in the set.
 pub fn has_level(set: u128, level: u32) -> bool
-    requires { level < ATOMS }
-    ensures { IsTrue result ↔ (bit_at set level ≡ 1) }
+    ensures { IsTrue result ↔ Counts set level }
 {
-    set >> level & 1 == 1
+    level >= LEVELS || set >> level & 1 == 1
 }
 
 /// The levels of both sets.
@@ -31,7 +33,11 @@ fn with_level(set: u128, level: u32) -> u128
     ensures added { Counts result level }
     ensures kept { IsWithin set result }
 {
-    if level < ATOMS { set | 1 << level } else { set }
+    if level < LEVELS {
+        set | 1 << level
+    } else {
+        set
+    }
 }
 
 fn with_binder(bindings: &Bindings, levels: &[u32], set: u128, term: Term) -> u128

@@ -4,8 +4,8 @@ use mir.Syntax.{w128}
 use Rattle.ucq_hom.proofs.Noted.{IsWithin-left}
 use Rattle.ucq_hom.proofs.levels.with_level.Goals as goal
 
-pub returns-then-level-lt-ATOMS-clause-added : goal.returns-then-level-lt-ATOMS-clause-added
-returns-then-level-lt-ATOMS-clause-added c = inr (bit_at_set_same w128 c.args.set c.args.level c.if-level-lt-ATOMS.true)
+pub returns-then-level-lt-LEVELS-clause-added : goal.returns-then-level-lt-LEVELS-clause-added
+returns-then-level-lt-LEVELS-clause-added c = inr (bit_at_set_same w128 c.args.set c.args.level c.if-level-lt-LEVELS.true)
 
-pub returns-then-level-lt-ATOMS-clause-kept : goal.returns-then-level-lt-ATOMS-clause-kept
-returns-then-level-lt-ATOMS-clause-kept c = IsWithin-left c.args.set _
+pub returns-then-level-lt-LEVELS-clause-kept : goal.returns-then-level-lt-LEVELS-clause-kept
+returns-then-level-lt-LEVELS-clause-kept c = IsWithin-left c.args.set _

@@ -1,12 +1,10 @@
 use Rattle.std.proofs.Common.{◌≡◌, ◌<◌, ◌+◌, ℕ, List, length, Contains, refl, sym, ◌∙◌, ap, arith, subst}
 use Rattle.std.specs.Option.{IsSome}
 use Rattle.std.specs.List.{remove}
-use Rattle.std.specs.Int.{bit_at}
 use Rattle.ucq_terms.specs.Syntax.{Atom}
 use Rattle.ucq_terms.specs.Unifier.{atom_at}
-use Rattle.ucq_terms.specs.declared.TheConstants.{ATOMS}
 use Rattle.ucq_hom.specs.Bindings.{Bound, Grown, IsMatched}
-use Rattle.ucq_hom.specs.Levels.{HasLevelsOf, KeepsLevels}
+use Rattle.ucq_hom.specs.Levels.{Counts, HasLevelsOf, KeepsLevels}
 use Rattle.ucq_hom.specs.Search.{HasLowTerms, IsAtomClash, IsFound, IsBlocked}
 use Rattle.ucq_hom.proofs.Found.{IsFound-more, IsBlocked-all, IsBlocked-jump, IsPast, IsPast-blocked, IsPast-clash, IsPast-skip, ArePlaces-first, ArePlaces-rest, read_at, HasLowTerms-at, Contains-remove, match_from, deeper_from}
 use Rattle.ucq_hom.proofs.Noted.{IsDeeper, HasLevelsOf-within, KeepsLevels-deeper}
@@ -85,13 +83,12 @@ returns-then-not-has_level-clause-blocked t c = λ set e.
     let d : IsDeeper a b c.args.levels.now c.note_since.new.levels c.args.level =
     deeper_from a c.loop-j.bindings b c.args.levels.now c.loop-j.levels c.note_since.new.levels c.args.level c.mark-mark.result atom.terms target.terms
     c.loop-j.invariant.same c.mark-mark.ensures.mark matched c.loop-j.invariant.levels c.note_since.ensures in
-    let below : c.args.level < ATOMS = let r = c.in-Some.ensures.cases.1 in let p = c.requires.deep in omega arith in
-    let other : ¬ (bit_at deeper c.args.level ≡ 1) = λ bit. let yes' = c.has_level.ensures.1 bit in let no' = c.if-not-has_level.true in cc in
+    let other : ¬ Counts deeper c.args.level = λ counted. let yes' = c.has_level.ensures.1 counted in let no' = c.if-not-has_level.true in cc in
     let same : deeper ≡ set = cc in
     subst (λ (x : ℕ). IsBlocked a c.args.levels.now x from c.args.places.now targets) same
     (subst (λ (x : List ℕ). IsBlocked a c.args.levels.now deeper from x targets) (sym c.in-Some.ensures.cases.0)
     (IsBlocked-jump a b c.args.levels.now c.note_since.new.levels c.args.level deeper from c.in-Some.place.now c.in-Some.rest.now targets d
-    (match_from a c.loop-j.bindings b atom.terms target.terms c.loop-j.invariant.same matched).grown below other (c.extend.ensures.blocked deeper c.in-Some-extend.is)))
+    (match_from a c.loop-j.bindings b atom.terms target.terms c.loop-j.invariant.same matched).grown other (c.extend.ensures.blocked deeper c.in-Some-extend.is)))
 
 pub returns-then-not-has_level-clause-levels : goal.returns-then-not-has_level-clause-levels
 returns-then-not-has_level-clause-levels t c =
