@@ -198,7 +198,7 @@ fn visit(
 
 /// Writes the numbers from 0 on.
 fn number(places: &mut [u32])
-    requires { length places.old ≤ 128 }
+    requires { length places.old ≤ ATOMS }
     ensures { (k : ℕ) → k < length places.new → slice_index places.new k ≡ k }
 {
     for i in 0..places.len() {
@@ -217,7 +217,7 @@ pub(crate) fn collect(
     ensures { OnOk result (IsCollected query.now facts.now (map (λ t. t.items) found.old.keys) (map (λ t. t.items) found.new.keys)) }
 {
     bindings.clear();
-    let mut room = [0; 128];
+    let mut room = [0; ATOMS as usize];
     let places = &mut room[..query.atoms().len()];
     number(places);
     explore(bindings, query, facts, places, found)

@@ -57,6 +57,9 @@ pub enum Kind {
     If,
 }
 
+/// The most bytes of a text.
+pub const BYTES: usize = 67_108_864;
+
 /// A token of a file: its kind, the place of its first byte, and the place after its last byte.
 #[derive(Clone, Copy, Debug, PartialEq, Eq)]
 pub struct Token {
@@ -85,7 +88,7 @@ fn token_at(text: &[u8], place: usize) -> Option<Token>
     }
 }
 
-/// The tokens of a text of at most 2^26 bytes, in order, each the longest of its place; or the first byte at which no
+/// The tokens of a text of at most `BYTES` bytes, in order, each the longest of its place; or the first byte at which no
 /// token, white space or comment begins. Linear in the text.
 pub fn tokens(alloc: Global, text: &[u8]) -> Result<Vec<Token>, LexFault>
     requires { length text.now ≤ 2 ^ 26 }

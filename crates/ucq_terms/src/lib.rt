@@ -31,6 +31,15 @@ pub const ATOMS: u32 = 128;
 /// Every variable of a stored query has a number below this one.
 pub const VARIABLES: u32 = 4_096;
 
+/// The most rules that a problem has.
+pub const RULES: u32 = 4_096;
+
+/// The most atoms of facts that an input has.
+pub const FACTS: u32 = 1_048_576;
+
+/// The most rows that a budget allows.
+pub const ROWS: u32 = 65_536;
+
 /// A term of an atom or of an answer list. A constant is the number of its text; a variable has a number of its own
 /// within its query or rule.
 #[derive(Clone, Copy, Debug, PartialEq, Eq, PartialOrd, Ord, Hash)]
