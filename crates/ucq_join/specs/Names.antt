@@ -5,7 +5,7 @@ use Rattle.ucq_terms.specs.declared.Term.TheVariants.{Constant, Variable}
 use Rattle.ucq_terms.specs.Syntax.{Query, Rule, OccursIn}
 use Rattle.ucq_terms.specs.Unifier.{Node, constant, of_query, of_copy}
 use Rattle.ucq_terms.specs.Rewriting.{Member, all_links, NamesClasses}
-use Rattle.ucq_terms.proofs.ClassNames.{code}
+use Rattle.ucq_terms.specs.Codes.{code}
 
 -- A set of places of pieces, and the names of nodes by their numbers: first come as many constants, then the query's variables
 -- below a bound, then for each member the rule's variables below another.

@@ -4,6 +4,8 @@ pub mod Chase
 pub mod Unifier
 pub mod Rewriting
 pub mod Union
+pub mod Codes
+pub mod Touching
 pub mod Numbering
 pub mod Query
 pub mod Rule

@@ -4,7 +4,7 @@ use Rattle.ucq_terms.specs.Syntax.{Rule, Query}
 use Rattle.ucq_terms.specs.declared.Term.TheVariants.{Variable}
 use Rattle.ucq_terms.specs.Chase.{IsExistential}
 use Rattle.ucq_terms.specs.Unifier.{Node, constant, of_query, of_copy, atom_at, links, AreJoined, KeepsPredicate, IsPieceUnifier, IsSinglePiece}
-use Rattle.ucq_terms.proofs.Touched.{Touches}
+use Rattle.ucq_terms.specs.Touching.{Touches}
 
 -- A choice says for each place of the query the place of a head's atom, or none. These are its pairs, of places from `n` on.
 abbrev pub pairs_from : ℕ → List (Option ℕ) → List (ℕ × ℕ)
