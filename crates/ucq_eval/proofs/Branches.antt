@@ -12,7 +12,7 @@ use Rattle.ucq_hom.specs.Search.{ArePlaces, IsOrder}
 use Rattle.ucq_hom.proofs.Ordered.{ArePlaces-at}
 use Rattle.ucq_facts.specs.Facts.{matching}
 use Rattle.ucq_facts.proofs.Matching.{Contains-from_matching}
-use Rattle.ucq_eval.specs.Join.{IsGrownBy, IsCollected, Gives, GivesBy, HasSamePlaces, IsKey, AreTargets, IsChoice}
+use Rattle.ucq_eval.specs.inner.Join.{IsGrownBy, IsCollected, Gives, GivesBy, HasSamePlaces, IsKey, AreTargets, IsChoice}
 use Rattle.ucq_eval.proofs.Places.{read_of}
 use Rattle.ucq_eval.proofs.Grown.{IsGrownBy-nothing, IsGrownBy-same, IsGrownBy-both}
 use Rattle.ucq_eval.proofs.Given.{none_by_no_target, none_by_clash, GivesBy-cases, GivesBy-left, GivesBy-right, GivesBy-same, GivesBy-from_same, GivesBy-matched, Gives-matched, Gives-same, Gives-from_same, Gives-by_matching, matching-given, Gives-maps, MapsInto-given}

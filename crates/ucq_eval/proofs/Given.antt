@@ -22,7 +22,7 @@ use Rattle.ucq_hom.proofs.Homs.{Extends-clear, Extends-mapping, Sends-homomorphi
 use Rattle.ucq_hom.proofs.Matched.{Extends-less, IsSome-grown, the_value}
 use Rattle.ucq_facts.specs.Facts.{IsMatch, matching}
 use Rattle.ucq_facts.proofs.Matching.{Contains-matching, Contains-from_matching}
-use Rattle.ucq_eval.specs.Join.{Gives, GivesBy, value, HasUnknown, IsRead, IsUnread, AreReached, HasSamePlaces, IsKey}
+use Rattle.ucq_eval.specs.inner.Join.{Gives, GivesBy, value, HasUnknown, IsRead, IsUnread, AreReached, HasSamePlaces, IsKey}
 
 -- a map that agrees with what is bound carries a term to what is bound to it
 pub value-image : (h : ℕ → Term) (b : Bound) (t s : Term) → Extends h b → value b t ≡ Some s → term_image h t ≡ s

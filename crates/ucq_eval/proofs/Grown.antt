@@ -1,6 +1,6 @@
 -- Lists of tuples that grow by those with a property.
 use Rattle.std.proofs.Common.{ℕ, List, Contains, ◌⊎◌, inl, inr}
-use Rattle.ucq_eval.specs.Join.{IsGrownBy}
+use Rattle.ucq_eval.specs.inner.Join.{IsGrownBy}
 
 -- nothing to add
 pub IsGrownBy-nothing : (P : List ℕ → Type 0) (xs : List (List ℕ)) → ((t : List ℕ) → P t → Contains xs t) → IsGrownBy P xs xs

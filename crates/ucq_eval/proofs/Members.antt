@@ -10,7 +10,7 @@ use Rattle.ucq_terms.specs.Homomorphism.{MapsInto}
 use Rattle.ucq_terms.proofs.Lists.{Any-contains, Any-from_contains, Contains-cons_cases, Contains-empty, Contains-first}
 use Rattle.ucq_eval.specs.Answers.{AreAnswers, AreFound, IsAnswer}
 use Rattle.ucq_eval.specs.Order.{AreInOrder}
-use Rattle.ucq_eval.specs.Join.{IsCollected}
+use Rattle.ucq_eval.specs.inner.Join.{IsCollected}
 
 -- before the first member
 pub none_found : (facts : List Atom) → AreFound [] facts []

@@ -10,7 +10,7 @@ use Rattle.ucq_terms.proofs.Lists.{Contains-first, Contains-rest, Contains-cons_
 use Rattle.ucq_hom.specs.Search.{ArePlaces}
 use Rattle.ucq_hom.proofs.Found.{read_at}
 use Rattle.ucq_hom.proofs.Ordered.{Contains-from_swapped, Contains-swapped}
-use Rattle.ucq_eval.specs.Join.{HasSamePlaces}
+use Rattle.ucq_eval.specs.inner.Join.{HasSamePlaces}
 
 pub HasSamePlaces-refl : (xs : List ℕ) → HasSamePlaces xs xs
 HasSamePlaces-refl xs = record { size = refl; each = λ p. (λ i. i, λ i. i) }

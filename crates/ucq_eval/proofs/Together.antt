@@ -16,8 +16,8 @@ use Rattle.ucq_terms.proofs.Lists.{Any-from_contains, Contains-cons_cases, Conta
 use Rattle.ucq_terms.proofs.Texts.{Contains-slice_get}
 use Rattle.ucq_eval.specs.declared.split.Search.{Search}
 use Rattle.ucq_eval.specs.Answers.{AreFound, IsAnswer, constants}
-use Rattle.ucq_eval.specs.Join.{IsCollected}
-use Rattle.ucq_eval.specs.Split.{Follows, IsOf, IsMerged, tuples_in}
+use Rattle.ucq_eval.specs.inner.Join.{IsCollected}
+use Rattle.ucq_eval.specs.inner.Split.{Follows, IsOf, IsMerged, tuples_in}
 
 -- ---- lists beside lists
 

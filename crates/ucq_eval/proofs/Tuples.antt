@@ -8,7 +8,7 @@ use Rattle.std.proofs.lemmas.List.Elements.{Contains-append_left, Contains-push,
 use Rattle.ucq_terms.proofs.Equality.{IsEquality}
 use Rattle.ucq_terms.proofs.Numbering.{list_any-map, Contains-from_any, any_from_contains}
 use Rattle.ucq_terms.proofs.Lists.{Contains-cons_cases, Contains-empty, Contains-first, Contains-rest}
-use Rattle.ucq_eval.specs.Join.{IsGrownBy}
+use Rattle.ucq_eval.specs.inner.Join.{IsGrownBy}
 use Rattle.ucq_eval.proofs.Grown.{IsGrownBy-both, IsGrownBy-nothing}
 
 IsEquality-tuples : IsEquality (pointwise nat_eq)

@@ -1,6 +1,5 @@
-pub mod Join
 pub mod Tuples
 pub mod Answers
 pub mod Order
-pub mod Split
 pub mod Laws
+pub mod inner

@@ -2,7 +2,7 @@
 ghost use Rattle.std.specs.Prelude.{◌≡◌, ◌<◌, ◌≤◌, ℕ, ◌∷◌, [], length, map, Contains, IsTrue, ◌↔◌, true, false, OnOk, slice_index};
 ghost use Rattle.ucq_terms.specs.Unifier.{atom_at};
 ghost use Rattle.ucq_hom.specs.Search.{ArePlaces};
-ghost use Rattle.ucq_eval.specs.Join.{IsGrownBy, IsCollected, Gives, GivesBy, value as value_of, HasUnknown, IsRead, IsUnread, AreReached, HasSamePlaces, AreTargets, IsChoice};
+ghost use Rattle.ucq_eval.specs.inner.Join.{IsGrownBy, IsCollected, Gives, GivesBy, value as value_of, HasUnknown, IsRead, IsUnread, AreReached, HasSamePlaces, AreTargets, IsChoice};
 
 use indexmap::IndexSet;
 use ucq_facts::{Facts, Matches};

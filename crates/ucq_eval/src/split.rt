@@ -1,8 +1,8 @@
 //! The answers of a union, by several threads.
 ghost use Rattle.std.specs.Prelude.{◌≡◌, ◌<◌, [], length, map, Contains, IfOk};
 ghost use Rattle.ucq_eval.specs.Answers.{AreAnswers, AreFound};
-ghost use Rattle.ucq_eval.specs.Join.{IsGrownBy};
-ghost use Rattle.ucq_eval.specs.Split.{Follows, IsOf, IsMerged};
+ghost use Rattle.ucq_eval.specs.inner.Join.{IsGrownBy};
+ghost use Rattle.ucq_eval.specs.inner.Split.{Follows, IsOf, IsMerged};
 
 use crate::join::collect;
 use crate::order::in_order_split;

@@ -20,8 +20,8 @@ use Rattle.ucq_terms.proofs.Zips.{Contains-zip, Contains-zip_left, same_at_zip}
 use Rattle.ucq_hom.specs.Search.{ArePlaces, IsOrder}
 use Rattle.ucq_hom.proofs.Found.{read_at}
 use Rattle.ucq_hom.proofs.Ordered.{ArePlaces-at}
-use Rattle.ucq_fold.specs.Agreement.{alike, pair_alike, agree, all_agree, renamed, goes_with}
-use Rattle.ucq_fold.specs.Placing.{visited, IsBeside, IsPlaced, Leads}
+use Rattle.ucq_fold.specs.inner.Agreement.{alike, pair_alike, agree, all_agree, renamed, goes_with}
+use Rattle.ucq_fold.specs.inner.Placing.{visited, IsBeside, IsPlaced, Leads}
 use Rattle.ucq_fold.proofs.Renamings.{agree-back, agree-from, agree-sym, list_all-from, list_all-at, all_agree-from, all_agree-at, beside, IsOneToOne, alike-variable, term_image-beside, terms_image-zip, IsTermOf, IsTermOf-atom, IsTermOf-answer, Renames, term_image-apart, alike-image, AreIsomorphic-renamed}
 
 -- Tests that hold together.

@@ -16,7 +16,7 @@ use Rattle.ucq_terms.proofs.Lists.{Contains-first, Contains-rest, Contains-cons_
 use Rattle.ucq_terms.proofs.Occurrences.{variables, variables_of, Contains-variables, Contains-variables_of, Contains-from_variables, Contains-from_variables_of}
 use Rattle.ucq_terms.proofs.Pairwise.{AllPairs-cons, AllPairs-map}
 use Rattle.ucq_terms.proofs.Subsets.{IsSubset-contains, IsSubset-from_contains, OccursIn-from_atom}
-use Rattle.ucq_fold.specs.Agreement.{alike, pair_alike, agree, all_agree}
+use Rattle.ucq_fold.specs.inner.Agreement.{alike, pair_alike, agree, all_agree}
 
 -- Tests of pairs, and of all pairs of lists.
 pub agree-forth : (p q : Term × Term) → agree p q ≡ true → p.0 ≡ q.0 → p.1 ≡ q.1

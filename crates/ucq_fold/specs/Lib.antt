@@ -1,3 +1,2 @@
 pub mod Parts
-pub mod Agreement
-pub mod Placing
+pub mod inner

@@ -2,7 +2,7 @@
 ghost use Rattle.std.specs.Prelude.{◌≡◌, zip};
 ghost use Rattle.std.specs.List.{list_all};
 ghost use Rattle.ucq_terms.specs.Numbering.{term_eq};
-ghost use Rattle.ucq_fold.specs.Agreement.{alike, agree, pair_alike, all_agree, renamed, goes_with};
+ghost use Rattle.ucq_fold.specs.inner.Agreement.{alike, agree, pair_alike, all_agree, renamed, goes_with};
 
 use ucq_terms::{Atom, Term};
 

@@ -4,8 +4,8 @@ ghost use Rattle.ucq_terms.specs.declared.Term.{Term};
 ghost use Rattle.ucq_terms.specs.Syntax.{Atom};
 ghost use Rattle.ucq_terms.specs.Homomorphism.{IsIsomorphism};
 ghost use Rattle.ucq_hom.specs.Search.{ArePlaces};
-ghost use Rattle.ucq_fold.specs.Agreement.{all_agree as agree_all};
-ghost use Rattle.ucq_fold.specs.Placing.{IsPlaced, Leads, visited};
+ghost use Rattle.ucq_fold.specs.inner.Agreement.{all_agree as agree_all};
+ghost use Rattle.ucq_fold.specs.inner.Placing.{IsPlaced, Leads, visited};
 
 use crate::agreement::{all_agree, goes_with_answers};
 use ucq_terms::{Atom, Query};

@@ -17,8 +17,8 @@ use Rattle.ucq_classes.specs.Numbers.{Numbers, number, first, size, width_of, Is
 use Rattle.ucq_classes.specs.Classes.{Labels, IsClassed}
 use Rattle.ucq_classes.proofs.Numbers.{place_below, first_next, copy_before, heads_numbered}
 use Rattle.ucq_join.specs.Walk.{Walk}
-use Rattle.ucq_join.specs.Search.{IsWalking}
-use Rattle.ucq_join.specs.Copies.{IsWidthOf, IsReadyFor, HasWidth, AreNumbered}
+use Rattle.ucq_join.specs.inner.Search.{IsWalking}
+use Rattle.ucq_join.specs.inner.Copies.{IsWidthOf, IsReadyFor, HasWidth, AreNumbered}
 
 -- Copies of one width have their first numbers at equal distances.
 pub first_even : (n : Numbers) (width : ℕ) → HasWidth n width → (k : ℕ) → k ≤ length n.widths → first n k ≡ length n.constants + n.variables + k * width

@@ -5,7 +5,7 @@ use Rattle.std.specs.List.{position_or_len}
 use Rattle.std.proofs.lemmas.Bool.{cases_lt, lt-ltb, le-ltb}
 use Rattle.ucq_terms.specs.declared.Term.TheVariants.{Constant, Variable}
 use Rattle.ucq_classes.proofs.Numbers.{place_at}
-use Rattle.ucq_join.specs.Naming.{name_by}
+use Rattle.ucq_join.specs.inner.Naming.{name_by}
 
 pub name_by-constant : (xs : List ℕ) (k : ℕ) → k < length xs → name_by xs k ≡ Constant (get_or xs k 0)
 name_by-constant xs k l = go (nat_lt k (length xs)) (lt-ltb k (length xs) l)

@@ -6,7 +6,7 @@ use Rattle.ucq_terms.specs.Unifier.{places}
 use Rattle.ucq_terms.specs.Rewriting.{Member, AreApart}
 use Rattle.ucq_terms.proofs.Lists.{Contains-first, Contains-rest, Contains-cons_cases, Contains-empty}
 use Rattle.ucq_terms.proofs.Places.{Contains-places, Contains-from_places}
-use Rattle.ucq_join.specs.Search.{has_place, overlap}
+use Rattle.ucq_join.specs.inner.Search.{has_place, overlap}
 
 pub list_any-at : {X : Type 0} (p : X → Bool) (xs : List X) → list_any p xs ≡ true → (x : X) × Contains xs x × (p x ≡ true)
 list_any-at p [] e = cc

@@ -16,7 +16,7 @@ use Rattle.ucq_terms.proofs.Lists.{All-from_contains, Contains-from_map, Contain
 use Rattle.ucq_terms.proofs.Pairwise.{AllPairs-append, AllPairs-map}
 use Rattle.ucq_terms.proofs.Places.{Contains-places}
 use Rattle.ucq_classes.specs.Classes.{atom_links}
-use Rattle.ucq_join.specs.Copies.{KeepsEach}
+use Rattle.ucq_join.specs.inner.Copies.{KeepsEach}
 use Rattle.ucq_join.specs.Walk.{piece_member, members_at, links_at, IsJoin, ArePieces}
 
 -- What holds of each two elements of a list holds of those before the last, and of each of these with it.

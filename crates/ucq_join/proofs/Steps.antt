@@ -5,10 +5,10 @@ use Rattle.std.proofs.lemmas.List.{append_assoc, length-append, length-map}
 use Rattle.std.proofs.lemmas.List.Elements.{Contains-append_left, Contains-push, Contains-push_cases}
 use Rattle.ucq_terms.proofs.Lists.{Contains-empty}
 use Rattle.ucq_join.specs.Walk.{Walk, ComesAfter, IsJoinOf, ArePieces, IsNext, IsLast, GoesOn, piece_member, members_at, links_at}
-use Rattle.ucq_join.specs.Search.{start_of, IsStart, IsFirstFrom, IsAdvanced}
+use Rattle.ucq_join.specs.inner.Search.{start_of, IsStart, IsFirstFrom, IsAdvanced}
 use Rattle.ucq_join.specs.Names.{Named, TellsNames}
-use Rattle.ucq_join.specs.Naming.{IsNamed}
-use Rattle.ucq_join.specs.Copies.{IsWidthOf, IsReadyFor}
+use Rattle.ucq_join.specs.inner.Naming.{IsNamed}
+use Rattle.ucq_join.specs.inner.Copies.{IsWidthOf, IsReadyFor}
 use Rattle.ucq_classes.specs.Classes.{Labels, IsClassed}
 use Rattle.ucq_join.proofs.Tells.{TellsNames-named}
 use Rattle.ucq_join.proofs.Orders.{GoesBeyond, beyond_after, beyond_rising, beyond_gap, after_beyond, beyond_dropped, beyond_nothing, IsBeginning, after_beginning, beginning_all, beginning_dropped}

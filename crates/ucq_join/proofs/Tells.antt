@@ -18,9 +18,9 @@ use Rattle.ucq_classes.specs.Numbers.{Numbers, number, first, width_of}
 use Rattle.ucq_classes.specs.Classes.{Labels, IsClassed}
 use Rattle.ucq_classes.proofs.Numbers.{place_below, place_at, first_more}
 use Rattle.ucq_classes.proofs.Classed.{linked_numbers, joined_numbers}
-use Rattle.ucq_join.specs.Copies.{IsWidthOf, IsReadyFor}
+use Rattle.ucq_join.specs.inner.Copies.{IsWidthOf, IsReadyFor}
 use Rattle.ucq_join.specs.Names.{Named, past, name_of, TellsNames}
-use Rattle.ucq_join.specs.Naming.{name_by, IsNamed}
+use Rattle.ucq_join.specs.inner.Naming.{name_by, IsNamed}
 use Rattle.ucq_join.proofs.Even.{Has, has_numbered, has_below, has_of_links, both_have, first_even}
 use Rattle.ucq_join.proofs.Labels.{name_by-constant, name_by-variable, name_by-same}
 

@@ -1,5 +1,3 @@
 pub mod Names
 pub mod Walk
-pub mod Copies
-pub mod Search
-pub mod Naming
+pub mod inner

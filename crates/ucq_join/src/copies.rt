@@ -1,7 +1,7 @@
 //! The terms of a query and of copies of one rule, with numbers.
 ghost use Rattle.std.specs.Prelude.{◌≡◌, ◌<◌, ◌≤◌, ◌+◌, ◌*◌, ◌^◌, length, IfOk, OnOk};
 ghost use Rattle.ucq_classes.specs.Numbers.{Numbers};
-ghost use Rattle.ucq_join.specs.Copies.{IsWidthOf, IsReadyFor, HasWidth};
+ghost use Rattle.ucq_join.specs.inner.Copies.{IsWidthOf, IsReadyFor, HasWidth};
 
 use std::alloc::Global;
 use ucq_classes::{Numbering, variable_bound};

@@ -3,8 +3,8 @@ ghost use Rattle.std.specs.Prelude.{◌≡◌, ◌<◌, ◌≤◌, ◌^◌, leng
 ghost use Rattle.ucq_terms.specs.Unifier.{of_query, of_copy};
 ghost use Rattle.ucq_join.specs.Names.{name_of};
 ghost use Rattle.ucq_classes.specs.Numbers.{size};
-ghost use Rattle.ucq_join.specs.Copies.{HasWidth};
-ghost use Rattle.ucq_join.specs.Naming.{name_by, AreNames, IsNamed};
+ghost use Rattle.ucq_join.specs.inner.Copies.{HasWidth};
+ghost use Rattle.ucq_join.specs.inner.Naming.{name_by, AreNames, IsNamed};
 
 use std::alloc::Global;
 use std::marker::Model;

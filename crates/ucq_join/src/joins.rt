@@ -23,7 +23,7 @@ pub struct Joins<'p> {
 
 impl<'p> Model for Joins<'p> {
     ghost use Rattle.ucq_join.specs.Walk.{Walk};
-    ghost use Rattle.ucq_join.specs.Search.{IsWalking};
+    ghost use Rattle.ucq_join.specs.inner.Search.{IsWalking};
 
     ghost Value = { Walk };
 

@@ -3,7 +3,7 @@ ghost use Rattle.std.specs.Prelude.{◌≡◌, ◌<◌, ◌≤◌, ◌++◌, ℕ
 ghost use Rattle.ucq_terms.specs.Unifier.{Node, links};
 ghost use Rattle.ucq_classes.specs.Numbers.{NumbersQuery, NumbersHeads};
 ghost use Rattle.ucq_classes.specs.Classes.{IsClassed};
-ghost use Rattle.ucq_join.specs.Copies.{AreNumbered, KeepsEach};
+ghost use Rattle.ucq_join.specs.inner.Copies.{AreNumbered, KeepsEach};
 ghost use Rattle.ucq_join.specs.Walk.{links_at};
 
 use ucq_classes::Classes;

@@ -2,9 +2,9 @@
 ghost use Rattle.std.specs.Prelude.{◌≡◌, ◌<◌, ◌≤◌, ◌+◌, ◌++◌, [], ◌∷◌, ◌↔◌, ◌⊎◌, ℕ, List, length, vec_len, IsTrue, IfOk, Contains, Some, None, true, false};
 ghost use Rattle.ucq_terms.specs.Rewriting.{AreApart};
 ghost use Rattle.ucq_classes.specs.Classes.{IsClassed};
-ghost use Rattle.ucq_join.specs.Copies.{AreNumbered};
+ghost use Rattle.ucq_join.specs.inner.Copies.{AreNumbered};
 ghost use Rattle.ucq_join.specs.Walk.{ArePieces, IsJoin, piece_member, links_at, Walk, IsNext, IsLast};
-ghost use Rattle.ucq_join.specs.Search.{has_place, overlap, start_of, IsStart, IsFirstFrom, IsAdvanced};
+ghost use Rattle.ucq_join.specs.inner.Search.{has_place, overlap, start_of, IsStart, IsFirstFrom, IsAdvanced};
 
 use crate::links::{link_members, link_piece, piece_at};
 use ucq_classes::Classes;

@@ -1,6 +1,6 @@
 ghost use Rattle.std.specs.Prelude.{◌≡◌, ◌≤◌, ◌<◌, ℕ, List, Option, IfOk, IfSome, length};
 ghost use Rattle.ucq_outside.specs.Causes.{HasCause};
-ghost use Rattle.ucq_outside.specs.Files.{IsPiece, Takes};
+ghost use Rattle.ucq_outside.specs.inner.Files.{IsPiece, Takes};
 
 use std::alloc::{AllocError, AllocFailed};
 

@@ -1,6 +1,6 @@
 ghost use Rattle.std.specs.Prelude.{◌≡◌, ◌≤◌, ◌<◌, ℕ, List, [], Option, Ok, Some, IfOk, length, vec_len, vec_capacity, ◌+◌, ◌++◌};
 ghost use Rattle.ucq_outside.specs.Causes.{HasCause};
-ghost use Rattle.ucq_outside.specs.Files.{Takes};
+ghost use Rattle.ucq_outside.specs.inner.Files.{Takes};
 ghost use Rattle.ucq_outside.specs.Sinks.{Pushes, counted_after, sink_after, told};
 
 use crate::files::{Failed, NoMemoryOutside, Sink};

@@ -1,6 +1,6 @@
 ghost use Rattle.std.specs.Prelude.{◌≡◌, ◌≤◌, ◌<◌, ℕ, List, Option, Ok, Some, IfOk, IfSome, length, option_map};
 ghost use Rattle.ucq_outside.specs.Causes.{HasCause};
-ghost use Rattle.ucq_outside.specs.Files.{IsPiece};
+ghost use Rattle.ucq_outside.specs.inner.Files.{IsPiece};
 ghost use Rattle.ucq_outside.specs.Shelves.{Gives, Pulls, file_named, file_or_empty, files_of, shelf_after};
 
 use crate::files::{Failed, Shelf};

@@ -1,7 +1,7 @@
 ghost use Rattle.std.specs.Prelude.{◌≡◌, ◌≤◌, ◌<◌, ℕ, List, Option, IfOk, IfSome, length, true, false};
 ghost use Rattle.ucq_outside.specs.Causes.{HasCause};
 ghost use Rattle.ucq_outside.specs.Edges.{files_after, stream_after, untold};
-ghost use Rattle.ucq_outside.specs.Files.{IsPiece, Takes};
+ghost use Rattle.ucq_outside.specs.inner.Files.{IsPiece, Takes};
 
 use crate::files::{Failed, Shelf, Sink};
 use std::io::{Read, Seek, SeekFrom, Stderr, Write};

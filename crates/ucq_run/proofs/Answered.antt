@@ -8,7 +8,7 @@ use Rattle.ucq_run.specs.declared.outcome.Outcome.{Outcome}
 use Rattle.ucq_run.specs.declared.outcome.Outcome.TheVariants.{Finished, Cut, NoMemory, BadWords, ReadFault as ReadFaultAt, TooLong, Refused, WriteFault}
 use Rattle.ucq_run.specs.Inputs.{Call}
 use Rattle.ucq_run.specs.Causes.{IsCause}
-use Rattle.ucq_run.specs.Asked.{Asks, IsAbout, question_in}
+use Rattle.ucq_run.specs.inner.Asked.{Asks, IsAbout, question_in}
 use Rattle.ucq_run.specs.Finished.{Question, question_of}
 use Rattle.ucq_run.proofs.Sections.{section_prints}
 use Rattle.ucq_outside.specs.Taken.{SinkChange, change_of, TookAll}

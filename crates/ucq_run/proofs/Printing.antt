@@ -26,7 +26,7 @@ use Rattle.ucq_run.specs.declared.outcome.Outcome.{Outcome}
 use Rattle.ucq_run.specs.declared.outcome.Outcome.TheVariants.{Finished, Cut}
 use Rattle.ucq_run.specs.declared.writing.Unwritten.{Unwritten}
 use Rattle.ucq_run.specs.declared.writing.Unwritten.TheVariants.{Failed, Memory}
-use Rattle.ucq_run.specs.Reading.{IsWritten}
+use Rattle.ucq_run.specs.inner.Reading.{IsWritten}
 use Rattle.ucq_outside.specs.Taken.{SinkChange, TookAll}
 use Rattle.ucq_run.specs.Finished.{Question, IsPrintedIn, IsFinishedText}
 use Rattle.ucq_print.specs.Laws.{ArePrintableRows}

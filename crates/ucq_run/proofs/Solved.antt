@@ -10,9 +10,9 @@ use Rattle.ucq_eval.specs.Laws.{AnswersAreChaseAnswers}
 use Rattle.ucq_print.specs.Laws.{ArePrintable, ArePrintableTuples}
 use Rattle.ucq_run.specs.declared.asked.Asked.{Asked}
 use Rattle.ucq_run.specs.declared.form.Form.TheVariants.{Queries}
-use Rattle.ucq_run.specs.Asked.{IsAbout}
+use Rattle.ucq_run.specs.inner.Asked.{IsAbout}
 use Rattle.ucq_run.specs.Finished.{AreChaseAnswers}
-use Rattle.ucq_run.specs.Solved.{IsSolved}
+use Rattle.ucq_run.specs.inner.Solved.{IsSolved}
 use Rattle.ucq_run.proofs.AnswerNames.{printed_answers}
 use Rattle.ucq_run.proofs.OverFacts.{answers_of_chase}
 

@@ -13,8 +13,8 @@ use Rattle.ucq_antichain.specs.declared.Row.{Row}
 use Rattle.ucq_antichain.specs.Rows.{live_queries, query_at, row_at}
 use Rattle.ucq_store.proofs.Live.{dead_more, live_more}
 use Rattle.ucq_print.specs.Texts.{answer_lines, answered_text, count_line, finished_lines, finished_text, life_text, lines_text, query_line, row_line}
-use Rattle.ucq_run.specs.Written.{row_texts}
-use Rattle.ucq_outside.specs.Files.{IsPiece}
+use Rattle.ucq_run.specs.inner.Written.{row_texts}
+use Rattle.ucq_outside.specs.inner.Files.{IsPiece}
 
 rest_is : (piece : List ℕ) (done : ℕ) → take (length piece - done) (drop done piece) ≡ drop done piece
 rest_is piece done = grind (arith, common_steps)

@@ -7,7 +7,7 @@ use Rattle.ucq_outside.specs.Taken.{SinkChange, change_of, Follows, over_both, T
 use Rattle.ucq_outside.proofs.Taken.{all_then_all, all_then_prefix, prefix_of_more, rose_in_one}
 use Rattle.ucq_run.specs.declared.writing.Unwritten.{Unwritten}
 use Rattle.ucq_run.specs.declared.writing.Unwritten.TheVariants.{Failed, Memory}
-use Rattle.ucq_run.specs.Reading.{IsWritten}
+use Rattle.ucq_run.specs.inner.Reading.{IsWritten}
 
 -- a sink that was not touched took a prefix of any text
 pub took_no_more : (taken : Option (List ℕ)) (faults : ℕ) (text : List ℕ) → TookPrefix (change_of taken taken faults faults) text

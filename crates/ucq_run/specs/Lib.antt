@@ -1,13 +1,10 @@
 pub mod Inputs
 pub mod Causes
-pub mod Reading
 pub mod Finished
 pub mod Cuts
 pub mod Parts
 pub mod Printed
-pub mod Asked
-pub mod Solved
-pub mod Written
 pub mod Outcomes
 pub mod Run
 pub mod Laws
+pub mod inner

@@ -1,7 +1,7 @@
 //! From the words to what is asked.
 ghost use Rattle.std.specs.Prelude.{◌≤◌, map, string_bytes};
 ghost use Rattle.ucq_run.specs.Inputs.{call_of};
-ghost use Rattle.ucq_run.specs.Asked.{IsRead};
+ghost use Rattle.ucq_run.specs.inner.Asked.{IsRead};
 
 use crate::form::{Form, form_of};
 use crate::inputs::input_of;

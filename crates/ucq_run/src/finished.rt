@@ -4,8 +4,8 @@ ghost use Rattle.ucq_terms.specs.Syntax.{HasEachOnce};
 ghost use Rattle.ucq_antichain.specs.Rows.{live_queries};
 ghost use Rattle.ucq_outside.specs.Taken.{change_of};
 ghost use Rattle.ucq_print.specs.Texts.{answered_text, atom_count, count_line, finished_text};
-ghost use Rattle.ucq_run.specs.Reading.{IsWritten};
-ghost use Rattle.ucq_run.specs.Written.{row_texts};
+ghost use Rattle.ucq_run.specs.inner.Reading.{IsWritten};
+ghost use Rattle.ucq_run.specs.inner.Written.{row_texts};
 
 use crate::texts::AnswersText;
 use crate::writing::{Unwritten, write_made, write_text};

@@ -9,11 +9,11 @@ ghost use Rattle.ucq_store.specs.Lawful.{IsLawfulByLevels};
 ghost use Rattle.ucq_print.specs.Laws.{ArePrintable, ArePrintableTuples};
 ghost use Rattle.ucq_run.specs.declared.form.Form.{Form as FormValue};
 ghost use Rattle.ucq_run.specs.declared.form.Form.TheVariants.{Queries, Answers, Counts};
-ghost use Rattle.ucq_run.specs.Asked.{IsAbout, IsWithin, question_in};
+ghost use Rattle.ucq_run.specs.inner.Asked.{IsAbout, IsWithin, question_in};
 ghost use Rattle.ucq_run.specs.Finished.{AreChaseAnswers};
 ghost use Rattle.ucq_outside.specs.Taken.{change_of};
 ghost use Rattle.ucq_run.specs.Printed.{IsWrittenAs, PrintsFor};
-ghost use Rattle.ucq_run.specs.Solved.{IsSolved};
+ghost use Rattle.ucq_run.specs.inner.Solved.{IsSolved};
 
 use crate::asked::Asked;
 use crate::finished::{atom_count, write_answered, write_finished};

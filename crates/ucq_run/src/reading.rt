@@ -1,6 +1,6 @@
 //! The reading of whole files.
 ghost use Rattle.std.specs.Prelude.{◌≡◌, ◌≤◌, ◌^◌, ◌<◌, ℕ, List, length};
-ghost use Rattle.ucq_run.specs.Reading.{IsReading};
+ghost use Rattle.ucq_run.specs.inner.Reading.{IsReading};
 
 use std::alloc::Global;
 use ucq_outside::{Failed, Shelf};

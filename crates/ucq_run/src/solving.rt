@@ -3,8 +3,8 @@ ghost use Rattle.std.specs.Prelude.{◌≡◌, IfOk, MatchOption};
 ghost use Rattle.ucq_antichain.specs.Rows.{live_queries};
 ghost use Rattle.ucq_store.specs.Store.{IsFinished};
 ghost use Rattle.ucq_run.specs.declared.form.Form.TheVariants.{Queries};
-ghost use Rattle.ucq_run.specs.Asked.{IsWithin};
-ghost use Rattle.ucq_run.specs.Solved.{IsSolved};
+ghost use Rattle.ucq_run.specs.inner.Asked.{IsWithin};
+ghost use Rattle.ucq_run.specs.inner.Solved.{IsSolved};
 
 use crate::asked::Asked;
 use crate::form::Form;

@@ -3,7 +3,7 @@ ghost use Rattle.std.specs.Prelude.{◌≡◌, ◌≤◌, ℕ, List, IfErr, IfOk
 ghost use Rattle.ucq_outside.specs.Causes.{Rose};
 ghost use Rattle.ucq_outside.specs.Taken.{change_of};
 ghost use Rattle.ucq_print.specs.Texts.{lines_text};
-ghost use Rattle.ucq_run.specs.Reading.{IsPushed, IsWritten};
+ghost use Rattle.ucq_run.specs.inner.Reading.{IsPushed, IsWritten};
 
 use crate::texts::Text;
 use std::alloc::Global;

@@ -12,7 +12,7 @@ use Rattle.ucq_terms.proofs.Lists.{Contains-map, Contains-from_map, Contains-fla
 use Rattle.ucq_terms.proofs.Places.{place_from_true, true_from_place}
 use Rattle.ucq_join.specs.Names.{Named, name_of}
 use Rattle.ucq_join.specs.Walk.{piece_member, members_at}
-use Rattle.ucq_step.specs.Building.{side_name, copies_named, left_out, left_out_at, pairs_at}
+use Rattle.ucq_step.specs.inner.Building.{side_name, copies_named, left_out, left_out_at, pairs_at}
 use Rattle.ucq_step.specs.declared.rewriting.Side.TheVariants.{OfCopy}
 
 -- whether a piece has a place

@@ -12,7 +12,7 @@ use Rattle.ucq_terms.proofs.Images.{Contains-image, IsSubset-from_image}
 use Rattle.ucq_terms.proofs.Lists.{Contains-map, Contains-from_map, map-map, map-same_on}
 use Rattle.ucq_terms.proofs.Subsets.{IsSubset-from_contains, OccursIn-from_atom}
 use Rattle.ucq_fold.proofs.Renamings.{beside, beside-at, IsFunctional}
-use Rattle.ucq_step.specs.Building.{atom_named}
+use Rattle.ucq_step.specs.inner.Building.{atom_named}
 use Rattle.ucq_step.proofs.Standing.{Stands, nodes, Contains-of_query, Contains-of_copy, Stands-answer, Stands-atom, Stands-body, OccursIn-unmatched}
 use Rattle.ucq_step.proofs.Standing.{IsOfBody, IsOfRest, named_atom, body_named, rest_named, standing_variable}
 use Rattle.ucq_step.proofs.Moved.{Moves, moved, moved-query_node, moved-copy_node, AreJoined-moved, unmatched-moved}

@@ -14,7 +14,7 @@ use Rattle.ucq_terms.proofs.Members.{MatchedAt, matched_at, Contains-all_links, 
 use Rattle.ucq_terms.proofs.Places.{place_of, Contains-unmatched}
 use Rattle.ucq_terms.proofs.Subsets.{OccursIn-from_atom, OccursIn-atom}
 use Rattle.ucq_terms.proofs.Zips.{Contains-zip, Contains-enumerate}
-use Rattle.ucq_step.specs.Building.{atom_named}
+use Rattle.ucq_step.specs.inner.Building.{atom_named}
 use Rattle.ucq_step.proofs.Standing.{body_named, rest_named}
 
 module _ (q : Query) (rules : List Rule) (members : List Member) (r : Query) (R : Rewrites q rules members r) (safe : IsSafe q) where

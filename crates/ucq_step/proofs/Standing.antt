@@ -7,7 +7,7 @@ use Rattle.ucq_terms.specs.declared.Term.TheVariants.{Constant, Variable}
 use Rattle.ucq_terms.specs.Syntax.{Atom, Rule, Query, OccursIn, IsVariableOf}
 use Rattle.ucq_terms.specs.Unifier.{Node, constant, of_query, of_copy, query_node, copy_node, unmatched}
 use Rattle.ucq_terms.specs.Rewriting.{Member, rule_at, all_pairs, atoms_named, bodies, Rewrites}
-use Rattle.ucq_step.specs.Building.{atom_named}
+use Rattle.ucq_step.specs.inner.Building.{atom_named}
 use Rattle.ucq_terms.proofs.Lists.{Contains-map, Contains-from_map, Contains-flat_map, Contains-from_flat_map}
 use Rattle.ucq_terms.proofs.Occurrences.{variables, variables_of, Contains-variables, Contains-variables_of, Contains-from_variables, Contains-from_variables_of}
 use Rattle.ucq_terms.proofs.Places.{Contains-from_unmatched}

@@ -20,7 +20,7 @@ use Rattle.ucq_terms.proofs.Subsets.{IsSameSet-refl}
 use Rattle.ucq_join.specs.Names.{Named, name_of}
 use Rattle.ucq_join.specs.Walk.{ArePieces, piece_member, members_at}
 use Rattle.ucq_join.proofs.Sets.{members_few}
-use Rattle.ucq_step.specs.Building.{side_name, copies_named, pairs_at, rewriting_of, IsTold}
+use Rattle.ucq_step.specs.inner.Building.{side_name, copies_named, pairs_at, rewriting_of, IsTold}
 use Rattle.ucq_step.specs.Steps.{IsTooWide, IsRewrittenAt}
 use Rattle.ucq_step.specs.declared.rewriting.Side.TheVariants.{OfQuery, OfCopy}
 use Rattle.ucq_step.proofs.Building.{copies_named-bodies}

@@ -6,7 +6,7 @@ use Rattle.ucq_terms.specs.Syntax.{Rule, Query}
 use Rattle.ucq_unify.specs.Pieces.{AreSinglePieces}
 use Rattle.ucq_join.specs.Names.{Named}
 use Rattle.ucq_join.specs.Walk.{ArePieces, IsJoinOf, Walk, GoesOn, IsLast}
-use Rattle.ucq_step.specs.Building.{IsTold}
+use Rattle.ucq_step.specs.inner.Building.{IsTold}
 use Rattle.ucq_step.specs.Kept.{AreDifferent, HasAddedCore}
 use Rattle.ucq_step.specs.Steps.{IsRewrittenAt, AreCoresUpTo, AreSteps}
 use Rattle.ucq_step.proofs.Ranks.{left_of, left_of-next}

@@ -1,3 +1,3 @@
-pub mod Building
 pub mod Kept
 pub mod Steps
+pub mod inner

@@ -5,7 +5,7 @@ use Rattle.ucq_store.specs.declared.Mark.{Mark}
 use Rattle.ucq_store.specs.declared.RowState.{RowState}
 use Rattle.ucq_store.specs.declared.RowState.TheVariants.{Waiting, Open, Claimed, Done, Skipped}
 use Rattle.ucq_store.specs.Store.{mark_at}
-use Rattle.ucq_store.specs.Marks.{NoneOpenBelow, IsSettled, AreSettledBelow}
+use Rattle.ucq_store.specs.inner.Marks.{NoneOpenBelow, IsSettled, AreSettledBelow}
 
 -- what a read past the marks gives
 abbrev no_mark : Mark

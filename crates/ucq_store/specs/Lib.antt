@@ -5,5 +5,5 @@ pub mod Laws
 pub mod Candidates
 pub mod Reports
 pub mod Calls
-pub mod Marks
 pub mod Moments
+pub mod inner

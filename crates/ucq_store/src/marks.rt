@@ -2,7 +2,7 @@
 ghost use Rattle.std.specs.Prelude.{◌≡◌, ◌<◌, ◌≤◌, ◌++◌, ◌∷◌, [], ◌↔◌, ℕ, length, IfOk, IsTrue};
 ghost use Rattle.ucq_antichain.specs.Rows.{IsLiveAt};
 ghost use Rattle.ucq_store.specs.Store.{mark_at, IsInWork};
-ghost use Rattle.ucq_store.specs.Marks.{with_state_at, NoneOpenBelow, IsSettled, AreSettledBelow};
+ghost use Rattle.ucq_store.specs.inner.Marks.{with_state_at, NoneOpenBelow, IsSettled, AreSettledBelow};
 ghost use Rattle.ucq_store.specs.Changes.{IsReopened, IsRaised, reopened, raised};
 ghost use Rattle.ucq_store.specs.Calls.{FindsOpen};
 
@@ -28,7 +28,7 @@ pub(crate) struct Marks {
 impl Model for Marks {
     ghost use Rattle.std.specs.Prelude.{◌≤◌, length};
     ghost use Rattle.std.specs.Vec.{vec_capacity};
-    ghost use Rattle.ucq_store.specs.Marks.{MarkList, NoneOpenBelow, AreSettledBelow};
+    ghost use Rattle.ucq_store.specs.inner.Marks.{MarkList, NoneOpenBelow, AreSettledBelow};
 
     ghost Value = { MarkList };
 

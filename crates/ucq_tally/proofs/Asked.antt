@@ -2,7 +2,7 @@
 use Rattle.std.proofs.Common.{◌≡◌, ℕ, Bool, List, length, ap, arith}
 use Rattle.std.specs.Prelude.{Option, Some, None}
 use Rattle.ucq_words.specs.Settings.{IsJob, JobValue, files, make, SettingsValue, StandFor}
-use Rattle.ucq_tally.specs.Asked.{IsWithin}
+use Rattle.ucq_tally.specs.inner.Asked.{IsWithin}
 
 job_of_digits : (digits : Option (List ℕ)) (given : List (List ℕ)) (answers : Bool) (job : JobValue) → IsJob digits given answers job → IsWithin job
 job_of_digits None given answers (files listed) is =

@@ -4,7 +4,7 @@ use Rattle.std.proofs.lemmas.Bool.{cases_lt}
 use Rattle.std.proofs.lemmas.List.{get_or_append_left, get_or_push}
 use Rattle.std.proofs.lemmas.List.Sums.{sum_by_push}
 use Rattle.std.specs.Prelude.{min}
-use Rattle.ucq_tally.specs.Sums.{most, IsSaturated, IsSumOf}
+use Rattle.ucq_tally.specs.inner.Sums.{most, IsSaturated, IsSumOf}
 
 -- a sum of no counts
 pub IsSaturated-none : (Counts : ℕ → ℕ → Type 0) → IsSaturated (IsSumOf Counts 0) 0

@@ -8,8 +8,8 @@ use Rattle.ucq_join.specs.Walk.{Walk, ComesAfter, IsLast, GoesOn, HasGiven}
 use Rattle.ucq_join.proofs.Orders.{ComesAfter-irrefl}
 use Rattle.ucq_join.proofs.Given.{HasGiven-start, HasGiven-next, HasGiven-all}
 use Rattle.ucq_step.proofs.Walking.{WalksIn}
-use Rattle.ucq_tally.specs.Sums.{most, IsSaturated}
-use Rattle.ucq_tally.specs.Counts.{HasRewritings}
+use Rattle.ucq_tally.specs.inner.Sums.{most, IsSaturated}
+use Rattle.ucq_tally.specs.inner.Counts.{HasRewritings}
 
 -- the walk has given so many sets
 pub record HasCounted (w : Walk) (number : ℕ) : Type 0 where

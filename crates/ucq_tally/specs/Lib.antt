@@ -1,3 +1,1 @@
-pub mod Sums
-pub mod Counts
-pub mod Asked
+pub mod inner

@@ -1,8 +1,8 @@
 //! How many rewritings a run tries.
 ghost use Rattle.std.specs.Prelude.{◌<◌, ◌≤◌, IfOk, length};
 ghost use Rattle.ucq_store.specs.Store.{IsRow, query_of, state_of};
-ghost use Rattle.ucq_tally.specs.Sums.{IsSaturated};
-ghost use Rattle.ucq_tally.specs.Counts.{HasRewritings, HasRewritingsWithAll, AddsRewritings, HasTried, IsTally};
+ghost use Rattle.ucq_tally.specs.inner.Sums.{IsSaturated};
+ghost use Rattle.ucq_tally.specs.inner.Counts.{HasRewritings, HasRewritingsWithAll, AddsRewritings, HasTried, IsTally};
 
 use std::alloc::Global;
 use ucq_hom::HomSpace;

@@ -2,7 +2,7 @@
 ghost use Rattle.std.specs.Prelude.{◌≡◌, ◌<◌, ◌≤◌, ◌+◌, ◌^◌, IfOk, length, vec_len};
 ghost use Rattle.ucq_reader.specs.Outcome.{byte_count, input_value, texts};
 ghost use Rattle.ucq_words.specs.Settings.{job_value};
-ghost use Rattle.ucq_tally.specs.Asked.{IsWithin};
+ghost use Rattle.ucq_tally.specs.inner.Asked.{IsWithin};
 
 use crate::faults::{Fault, refusal};
 use std::io::{ErrorKind, Read};

@@ -10,7 +10,7 @@ use Rattle.std.specs.List.Sorted.{IsStrictlyIncreasing}
 use Rattle.ucq_terms.specs.Unifier.{places}
 use Rattle.ucq_terms.proofs.Lists.{Contains-first, Contains-rest, Contains-cons_cases, Contains-empty}
 use Rattle.ucq_terms.proofs.Places.{Contains-from_places, Contains-places}
-use Rattle.ucq_unify.specs.Pieces.{pairs_from, pairs_of, head_at, with_head}
+use Rattle.ucq_unify.specs.inner.Growing.{pairs_from, pairs_of, head_at, with_head}
 
 -- A pair of the choice is the head at its place.
 from_pairs : (n : ℕ) (choice : List (Option ℕ)) (pair : ℕ × ℕ) → Contains (pairs_from n choice) pair →

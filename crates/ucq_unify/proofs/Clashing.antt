@@ -8,9 +8,9 @@ use Rattle.ucq_classes.specs.Numbers.{Numbers, width_of, IsNumbered}
 use Rattle.ucq_classes.specs.Classes.{Labels, IsClassed}
 use Rattle.ucq_classes.proofs.Numbers.{copy_within}
 use Rattle.ucq_classes.proofs.Classed.{both_numbered}
-use Rattle.ucq_unify.specs.Pieces.{pairs_of, head_at, Clashes, HasClash, IsCalledFor}
-use Rattle.ucq_unify.specs.Sides.{AreNumbered}
-use Rattle.ucq_unify.specs.Classes.{IsSpoilt, HasSpoilt, IsCalledAt}
+use Rattle.ucq_unify.specs.inner.Growing.{pairs_of, head_at, Clashes, HasClash, IsCalledFor}
+use Rattle.ucq_unify.specs.inner.Sides.{AreNumbered}
+use Rattle.ucq_unify.specs.inner.Classes.{IsSpoilt, HasSpoilt, IsCalledAt}
 
 -- The flags tell the existential variables.
 module _ (q : Query) (rule : Rule) (flags : List Bool) (n : Numbers) (h : AreNumbered q rule flags n) where

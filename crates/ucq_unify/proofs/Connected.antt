@@ -6,7 +6,7 @@ use Rattle.ucq_terms.specs.Syntax.{Query, Rule}
 use Rattle.ucq_terms.specs.Unifier.{IsPieceUnifier, IsSinglePiece}
 use Rattle.ucq_terms.proofs.Lists.{Contains-filter, Contains-from_filter, length-positive, first_element}
 use Rattle.ucq_terms.proofs.Touched.{passing, passing_unifies, passes_too}
-use Rattle.ucq_unify.specs.Pieces.{IsAlike, IsConnected}
+use Rattle.ucq_unify.specs.inner.Growing.{IsAlike, IsConnected}
 
 not_true_too : (a b : Bool) → (a ≡ true → b ≡ true) → (not a ≡ true → not b ≡ true) → a ≡ b
 not_true_too true b h k = sym (h refl)

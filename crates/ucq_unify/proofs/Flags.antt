@@ -8,7 +8,7 @@ use Rattle.ucq_terms.specs.Syntax.{Query, Rule, OccursIn}
 use Rattle.ucq_terms.specs.Chase.{IsExistential}
 use Rattle.ucq_classes.specs.Numbers.{Numbers, NumbersQuery}
 use Rattle.ucq_classes.proofs.Numbers.{query_numbered, heads_numbered}
-use Rattle.ucq_unify.specs.Sides.{HasFlags, AreFlags, AreNumbered}
+use Rattle.ucq_unify.specs.inner.Sides.{HasFlags, AreFlags, AreNumbered}
 
 -- a flag more
 pub HasFlags-more : (rule : Rule) (n : ℕ) (flags more : List Bool) (b : Bool) → HasFlags rule n flags → (b ≡ true) ↔ IsExistential rule n →

@@ -6,7 +6,8 @@ use Rattle.ucq_terms.specs.Syntax.{Query, Rule}
 use Rattle.ucq_terms.specs.Unifier.{links, KeepsPredicate, IsPieceUnifier, IsSinglePiece}
 use Rattle.ucq_terms.proofs.Lists.{Contains-first, Contains-cons_cases, Contains-empty, first_element}
 use Rattle.ucq_terms.proofs.Pairwise.{AllPairs-append}
-use Rattle.ucq_unify.specs.Pieces.{pairs_of, head_at, with_head, IsWithin, StartsAt, IsGrown, IsCalledFor, HasClash, IsSearched, IsBranched, IsRooted, AreSinglePieces}
+use Rattle.ucq_unify.specs.Pieces.{AreSinglePieces}
+use Rattle.ucq_unify.specs.inner.Growing.{pairs_of, head_at, with_head, IsWithin, StartsAt, IsGrown, IsCalledFor, HasClash, IsSearched, IsBranched, IsRooted}
 use Rattle.ucq_unify.proofs.Choices.{rises_from_rising, same_pair, least_pair, with_head-cases, with_head-older, with_head-newest}
 use Rattle.ucq_unify.proofs.Growth.{grown_single, piece_is_choice, called_for, clash_blocks}
 

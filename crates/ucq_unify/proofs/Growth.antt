@@ -16,7 +16,7 @@ use Rattle.ucq_terms.proofs.Matched.{Contains-from_links, Contains-links, link_r
 use Rattle.ucq_terms.proofs.Places.{Contains-from_places, Contains-places, Contains-unmatched, Contains-from_unmatched, place_from_true, true_from_place}
 use Rattle.ucq_terms.proofs.Subsets.{OccursIn-from_atom, OccursIn-atom}
 use Rattle.ucq_terms.proofs.Touched.{Touches, touches_too, touches_from, passing, passing_unifies, passes_too}
-use Rattle.ucq_unify.specs.Pieces.{pairs_of, head_at, with_head, IsWithin, IsAlike, IsGrown, Clashes, HasClash, IsCalledFor}
+use Rattle.ucq_unify.specs.inner.Growing.{pairs_of, head_at, with_head, IsWithin, IsAlike, IsGrown, Clashes, HasClash, IsCalledFor}
 use Rattle.ucq_unify.proofs.Connected.{connected_single}
 use Rattle.ucq_unify.proofs.Choices.{head-no_place, with_head-cases, with_head-older, with_head-newest, Rises, rises_from_rising, pairs_rise, same_pair, same_pairs}
 

@@ -5,8 +5,8 @@ use Rattle.std.proofs.lemmas.Grind.{flat_map-append}
 use Rattle.ucq_terms.specs.Syntax.{Query, Rule}
 use Rattle.ucq_terms.specs.Unifier.{atom_at, links}
 use Rattle.ucq_classes.specs.Classes.{atom_links}
-use Rattle.ucq_unify.specs.Pieces.{pairs_of, head_at}
-use Rattle.ucq_unify.specs.Classes.{place_links}
+use Rattle.ucq_unify.specs.inner.Growing.{pairs_of, head_at}
+use Rattle.ucq_unify.specs.inner.Classes.{place_links}
 use Rattle.ucq_unify.proofs.Choices.{pair_at, pairs_of-more}
 
 -- the links of a choice's first places, and of one more

@@ -4,8 +4,9 @@ use Rattle.std.proofs.lemmas.List.{append-nil}
 use Rattle.ucq_terms.specs.Syntax.{Query, Rule}
 use Rattle.ucq_terms.specs.Unifier.{KeepsPredicate, IsPieceUnifier}
 use Rattle.ucq_terms.proofs.Lists.{first_element}
-use Rattle.ucq_unify.specs.Pieces.{pairs_of, head_at, with_head, IsGrown, IsRooted, AreSinglePieces}
-use Rattle.ucq_unify.specs.Search.{IsBlocked, IsNext, HasFound, HasBranched, HasRooted}
+use Rattle.ucq_unify.specs.Pieces.{AreSinglePieces}
+use Rattle.ucq_unify.specs.inner.Growing.{pairs_of, head_at, with_head, IsGrown, IsRooted}
+use Rattle.ucq_unify.specs.inner.Search.{IsBlocked, IsNext, HasFound, HasBranched, HasRooted}
 use Rattle.ucq_unify.proofs.Found.{searched_none, searched_closed, searched_open, branched_none, branched_skip, branched_more, rooted_none, rooted_more}
 use Rattle.ucq_unify.proofs.Choices.{no_heads-no_pairs}
 

@@ -1,4 +1,2 @@
 pub mod Pieces
-pub mod Sides
-pub mod Classes
-pub mod Search
+pub mod inner

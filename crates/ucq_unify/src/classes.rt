@@ -5,9 +5,9 @@ ghost use Rattle.ucq_terms.specs.Syntax.{OccursIn};
 ghost use Rattle.ucq_terms.specs.Unifier.{Node as NodeValue, of_query, of_copy, links, KeepsPredicate, AreJoined, HasNoClash};
 ghost use Rattle.ucq_classes.specs.Numbers.{width_of, NumbersQuery};
 ghost use Rattle.ucq_classes.specs.Classes.{IsClassed};
-ghost use Rattle.ucq_unify.specs.Pieces.{pairs_of};
-ghost use Rattle.ucq_unify.specs.Sides.{HasFlags, HasLowAnswers, AreNumbered};
-ghost use Rattle.ucq_unify.specs.Classes.{place_links, IsFlaggedPrivate, MeetsConstant, MeetsAnswer, MeetsOther, IsSpoilt, HasSpoilt, CallsFor, IsCalledAt, KeepsEach};
+ghost use Rattle.ucq_unify.specs.inner.Growing.{pairs_of};
+ghost use Rattle.ucq_unify.specs.inner.Sides.{HasFlags, HasLowAnswers, AreNumbered};
+ghost use Rattle.ucq_unify.specs.inner.Classes.{place_links, IsFlaggedPrivate, MeetsConstant, MeetsAnswer, MeetsOther, IsSpoilt, HasSpoilt, CallsFor, IsCalledAt, KeepsEach};
 
 use crate::sides::Sides;
 use ucq_classes::{Classes, Node};

@@ -1,9 +1,10 @@
 //! The search for single pieces.
 ghost use Rattle.std.specs.Prelude.{◌≡◌, ◌<◌, ◌^◌, ◌++◌, [], ◌∷◌, ◌↔◌, ◌≤◌, ℕ, length, IsTrue, OnOk, IfOk};
 ghost use Rattle.ucq_terms.specs.Unifier.{KeepsPredicate};
-ghost use Rattle.ucq_unify.specs.Pieces.{pairs_of, with_head, IsGrown, IsOpen, AreSinglePieces};
-ghost use Rattle.ucq_unify.specs.Sides.{AreNumbered};
-ghost use Rattle.ucq_unify.specs.Search.{IsStep, HasFound, HasBranched, IsEmptyChoice};
+ghost use Rattle.ucq_unify.specs.Pieces.{AreSinglePieces};
+ghost use Rattle.ucq_unify.specs.inner.Growing.{pairs_of, with_head, IsGrown, IsOpen};
+ghost use Rattle.ucq_unify.specs.inner.Sides.{AreNumbered};
+ghost use Rattle.ucq_unify.specs.inner.Search.{IsStep, HasFound, HasBranched, IsEmptyChoice};
 
 use crate::classes::{first_called, has_clash, link_choice};
 use crate::sides::{Sides, existential_flags, numbering};

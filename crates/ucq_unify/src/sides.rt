@@ -1,6 +1,6 @@
 //! A query and a rule.
 ghost use Rattle.std.specs.Prelude.{IfOk};
-ghost use Rattle.ucq_unify.specs.Sides.{AreFlags, AreNumbered};
+ghost use Rattle.ucq_unify.specs.inner.Sides.{AreFlags, AreNumbered};
 
 use std::alloc::Global;
 use ucq_classes::{Numbering, variable_bound};

@@ -10,7 +10,7 @@ use Rattle.ucq_hom.specs.Search.{HasLowTerms}
 use Rattle.ucq_hom.proofs.Found.{ArePlaces-rest, HasLowTerms-at}
 use Rattle.ucq_hom.proofs.Homs.{HasLowAtoms-atoms}
 use Rattle.ucq_facts.specs.Facts.{matching}
-use Rattle.ucq_eval.specs.Join.{Gives, HasUnknown, IsRead, IsUnread, AreReached}
+use Rattle.ucq_eval.specs.inner.Join.{Gives, HasUnknown, IsRead, IsUnread, AreReached}
 use Rattle.ucq_eval.proofs.Grown.{IsGrownBy-nothing, IsGrownBy-same}
 use Rattle.ucq_eval.proofs.Places.{HasSamePlaces-swapped, HasSamePlaces-trans, HasSamePlaces-part, HasSamePlaces-first, ArePlaces-same, read_of, HasSamePlaces-refl, no_places, some_place}
 use Rattle.ucq_eval.proofs.Given.{none_by_unknown, read_alone, Gives-read, place_by_unread, AreReached-same, AreReached-matched}

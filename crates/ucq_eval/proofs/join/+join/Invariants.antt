@@ -1,5 +1,5 @@
 use Rattle.std.proofs.Common.{◌≡◌, ◌+◌, ◌*◌, ◌++◌, length, map}
-use Rattle.ucq_eval.specs.Join.{IsGrownBy, GivesBy, HasSamePlaces}
+use Rattle.ucq_eval.specs.inner.Join.{IsGrownBy, GivesBy, HasSamePlaces}
 use Rattle.ucq_eval.proofs.join.+join.Given as goal
 
 abbrev pub decreases-explore : goal.decreases-explore

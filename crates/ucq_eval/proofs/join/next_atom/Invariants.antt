@@ -1,4 +1,4 @@
-use Rattle.ucq_eval.specs.Join.{IsChoice}
+use Rattle.ucq_eval.specs.inner.Join.{IsChoice}
 use Rattle.ucq_eval.proofs.join.next_atom.Given as goal
 
 abbrev pub invariant-loop-i : goal.invariant-loop-i

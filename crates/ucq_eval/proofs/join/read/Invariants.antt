@@ -1,5 +1,5 @@
 use Rattle.std.proofs.Common.{take}
-use Rattle.ucq_eval.specs.Join.{IsRead}
+use Rattle.ucq_eval.specs.inner.Join.{IsRead}
 use Rattle.ucq_eval.proofs.join.read.Given as goal
 
 abbrev pub invariant-loop-i : goal.invariant-loop-i

@@ -1,4 +1,4 @@
-use Rattle.ucq_eval.specs.Join.{AreTargets}
+use Rattle.ucq_eval.specs.inner.Join.{AreTargets}
 use Rattle.ucq_eval.proofs.join.targets.Given as goal
 
 abbrev pub invariant-loop-place : goal.invariant-loop-place

@@ -3,7 +3,7 @@ use Rattle.ucq_terms.specs.declared.Term.{Term}
 use Rattle.ucq_terms.specs.Syntax.{Atom, Query}
 use Rattle.ucq_terms.specs.Homomorphism.{AreIsomorphic}
 use Rattle.ucq_hom.specs.Search.{IsOrder}
-use Rattle.ucq_fold.specs.Agreement.{renamed}
+use Rattle.ucq_fold.specs.inner.Agreement.{renamed}
 use Rattle.ucq_fold.proofs.Renamings.{IsTermOf-answer}
 use Rattle.ucq_fold.proofs.Placings.{AreIsomorphic-placed, Renames-isomorphism, renamed-renamed}
 use Rattle.ucq_fold.proofs.isomorphism.find_renaming.Goals as goal

@@ -5,7 +5,7 @@ use Rattle.ucq_terms.specs.declared.Term.{Term}
 use Rattle.ucq_terms.specs.Syntax.{atom_image}
 use Rattle.ucq_terms.specs.Unifier.{atom_at}
 use Rattle.ucq_terms.specs.Homomorphism.{IsIsomorphism}
-use Rattle.ucq_fold.specs.Placing.{Leads, visited}
+use Rattle.ucq_fold.specs.inner.Placing.{Leads, visited}
 use Rattle.ucq_fold.proofs.Placings.{AreSameTo, AreSameTo-trans, IsPlaced-same, set_next, none_next, none_left}
 use Rattle.ucq_fold.proofs.placing.+place_rest.Goals as goal
 use Rattle.ucq_fold.proofs.placing.+place_rest.Goals.{else-fits-via-then-fits+else-place_rest, else-fits-via-else-fits}

@@ -3,7 +3,7 @@ use Rattle.ucq_terms.specs.declared.Term.{Term}
 use Rattle.ucq_terms.specs.Syntax.{atom_image}
 use Rattle.ucq_terms.specs.Unifier.{atom_at}
 use Rattle.ucq_terms.specs.Homomorphism.{IsIsomorphism}
-use Rattle.ucq_fold.specs.Placing.{Leads, visited}
+use Rattle.ucq_fold.specs.inner.Placing.{Leads, visited}
 use Rattle.ucq_fold.proofs.placing.+place_rest.Given as goal
 
 abbrev pub decreases-place_rest : goal.decreases-place_rest

@@ -3,8 +3,8 @@ use Rattle.std.proofs.lemmas.Bool.{cases_eq}
 use Rattle.ucq_terms.specs.declared.Term.{Term}
 use Rattle.ucq_terms.specs.Syntax.{Atom}
 use Rattle.ucq_hom.proofs.Ordered.{ArePlaces-at}
-use Rattle.ucq_fold.specs.Agreement.{all_agree}
-use Rattle.ucq_fold.specs.Placing.{visited}
+use Rattle.ucq_fold.specs.inner.Agreement.{all_agree}
+use Rattle.ucq_fold.specs.inner.Placing.{visited}
 use Rattle.ucq_fold.proofs.Placings.{read_terms}
 use Rattle.ucq_fold.proofs.placing.agrees_with_first.Goals as goal
 

@@ -1,6 +1,6 @@
 use Rattle.std.proofs.Common.{◌≡◌, ◌<◌, ℕ, true, zip}
-use Rattle.ucq_fold.specs.Agreement.{all_agree}
-use Rattle.ucq_fold.specs.Placing.{visited}
+use Rattle.ucq_fold.specs.inner.Agreement.{all_agree}
+use Rattle.ucq_fold.specs.inner.Placing.{visited}
 use Rattle.ucq_fold.proofs.placing.agrees_with_first.Given as goal
 
 abbrev pub invariant-loop-i : goal.invariant-loop-i

@@ -2,8 +2,8 @@ use Rattle.std.proofs.Common.{◌≡◌, ◌<◌, true, List, length, zip, subst
 use Rattle.ucq_terms.specs.declared.Term.{Term}
 use Rattle.ucq_terms.specs.Syntax.{Atom}
 use Rattle.ucq_hom.proofs.Ordered.{ArePlaces-at}
-use Rattle.ucq_fold.specs.Agreement.{all_agree, goes_with}
-use Rattle.ucq_fold.specs.Placing.{visited}
+use Rattle.ucq_fold.specs.inner.Agreement.{all_agree, goes_with}
+use Rattle.ucq_fold.specs.inner.Placing.{visited}
 use Rattle.ucq_fold.proofs.Placings.{read_atom, IsPlaced-more, goes_with-renamed, agrees_with-renamed}
 use Rattle.ucq_fold.proofs.placing.fits.Goals as goal
 

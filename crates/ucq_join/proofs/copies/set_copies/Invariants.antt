@@ -1,5 +1,5 @@
 use Rattle.std.proofs.Common.{◌≡◌, length}
-use Rattle.ucq_join.specs.Copies.{HasWidth}
+use Rattle.ucq_join.specs.inner.Copies.{HasWidth}
 use Rattle.ucq_join.proofs.copies.set_copies.Given as goal
 
 abbrev pub invariant-loop-copy : goal.invariant-loop-copy

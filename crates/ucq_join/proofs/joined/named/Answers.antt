@@ -2,7 +2,7 @@ use Rattle.std.proofs.Common.{rules, ◌≡◌, ◌≤◌, ◌<◌, ◌*◌, ◌
 use Rattle.std.proofs.lemmas.List.Elements.{same_from_all_zip}
 use Rattle.ucq_classes.specs.Numbers.{Numbers, first, size, IsNumbering}
 use Rattle.ucq_classes.proofs.Numbers.{first_more}
-use Rattle.ucq_join.specs.Naming.{AreNames}
+use Rattle.ucq_join.specs.inner.Naming.{AreNames}
 use Rattle.ucq_join.proofs.Even.{first_even}
 use Rattle.ucq_join.proofs.joined.named.Goals as goal
 

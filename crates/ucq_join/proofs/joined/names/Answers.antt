@@ -4,7 +4,7 @@ use Rattle.std.proofs.lemmas.List.{get_or_push, get_or_append_left}
 use Rattle.ucq_partition.specs.Partition.{label_of}
 use Rattle.ucq_terms.specs.declared.Term.{Term}
 use Rattle.ucq_classes.specs.Numbers.{Numbers}
-use Rattle.ucq_join.specs.Naming.{name_by}
+use Rattle.ucq_join.specs.inner.Naming.{name_by}
 use Rattle.ucq_join.proofs.joined.names.Goals as goal
 
 pub loop-number-preserved : goal.loop-number-preserved

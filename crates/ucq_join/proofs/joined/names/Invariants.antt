@@ -1,4 +1,4 @@
-use Rattle.ucq_join.specs.Naming.{AreNames}
+use Rattle.ucq_join.specs.inner.Naming.{AreNames}
 use Rattle.ucq_join.proofs.joined.names.Given as goal
 
 abbrev pub invariant-loop-number : goal.invariant-loop-number

@@ -6,7 +6,7 @@ use Rattle.ucq_terms.specs.Unifier.{Node, atom_at, links, KeepsPredicate}
 use Rattle.ucq_classes.specs.Numbers.{Numbers, NumbersAtom, NumbersHead}
 use Rattle.ucq_classes.specs.Classes.{IsClassed, atom_links}
 use Rattle.ucq_classes.proofs.Numbers.{numbered_atom, numbered_head, read_atom}
-use Rattle.ucq_join.specs.Copies.{KeepsEach}
+use Rattle.ucq_join.specs.inner.Copies.{KeepsEach}
 use Rattle.ucq_join.proofs.Sets.{links-more}
 use Rattle.ucq_join.proofs.links.link_piece.Goals as goal
 

@@ -4,7 +4,7 @@ use Rattle.std.proofs.lemmas.List.{get_or_default}
 use Rattle.std.proofs.lemmas.List.Elements.{Contains-get_or}
 use Rattle.ucq_terms.specs.Rewriting.{AreApart}
 use Rattle.ucq_join.specs.Walk.{piece_member}
-use Rattle.ucq_join.specs.Search.{overlap}
+use Rattle.ucq_join.specs.inner.Search.{overlap}
 use Rattle.ucq_join.proofs.Overlaps.{not_apart, apart_from_test}
 use Rattle.ucq_join.proofs.search.is_apart.Goals as goal
 

@@ -3,8 +3,8 @@ use Rattle.std.specs.Prelude.{codes}
 use Rattle.ucq_antichain.specs.Rows.{live_queries}
 use Rattle.ucq_outside.specs.Taken.{change_of}
 use Rattle.ucq_print.specs.Texts.{count_line, finished_text}
-use Rattle.ucq_run.specs.Reading.{IsWritten}
-use Rattle.ucq_run.specs.Written.{row_texts}
+use Rattle.ucq_run.specs.inner.Reading.{IsWritten}
+use Rattle.ucq_run.specs.inner.Written.{row_texts}
 use Rattle.ucq_run.proofs.Told.{finished_about}
 use Rattle.ucq_run.proofs.Written.{GoOn, both_written, unwritten_with_more}
 use Rattle.ucq_run.proofs.finished.write_finished.Goals as goal

@@ -2,7 +2,7 @@ use Rattle.std.proofs.Common.{refl, rules, subst, sym, ◌≡◌, ◌++◌, Err}
 use Rattle.std.specs.Prelude.{codes}
 use Rattle.ucq_outside.specs.Taken.{change_of}
 use Rattle.ucq_print.specs.Texts.{count_line}
-use Rattle.ucq_run.specs.Reading.{IsWritten}
+use Rattle.ucq_run.specs.inner.Reading.{IsWritten}
 use Rattle.ucq_run.proofs.Written.{GoOn, both_written, unwritten_with_more}
 use Rattle.ucq_run.proofs.finished.write_head.Goals as goal
 

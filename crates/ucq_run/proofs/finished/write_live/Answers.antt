@@ -3,8 +3,8 @@ use Rattle.ucq_antichain.specs.Rows.{query_at, row_at}
 use Rattle.ucq_outside.specs.Taken.{change_of}
 use Rattle.ucq_outside.proofs.Taken.{all_then_all}
 use Rattle.ucq_print.specs.Texts.{query_line}
-use Rattle.ucq_run.specs.Reading.{IsWritten}
-use Rattle.ucq_run.specs.Written.{row_texts}
+use Rattle.ucq_run.specs.inner.Reading.{IsWritten}
+use Rattle.ucq_run.specs.inner.Written.{row_texts}
 use Rattle.ucq_run.proofs.Told.{live_line_made, rows_about, rows_more, rows_same}
 use Rattle.ucq_run.proofs.Written.{GoOn, left_in_midst}
 use Rattle.ucq_run.proofs.finished.write_live.Goals as goal

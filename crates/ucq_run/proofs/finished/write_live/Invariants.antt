@@ -1,6 +1,6 @@
 use Rattle.std.proofs.Common.{◌≤◌, take}
 use Rattle.ucq_outside.specs.Taken.{change_of, TookAll}
-use Rattle.ucq_run.specs.Written.{row_texts}
+use Rattle.ucq_run.specs.inner.Written.{row_texts}
 use Rattle.ucq_run.proofs.finished.write_live.Given as goal
 
 abbrev pub invariant-loop-row : goal.invariant-loop-row

@@ -2,7 +2,7 @@ use Rattle.std.proofs.Common.{drop, refl, rules, subst, sym, take, ◌+◌, ◌<
 use Rattle.ucq_outside.specs.Taken.{change_of, TookAll}
 use Rattle.ucq_outside.proofs.Taken.{all_then_all}
 use Rattle.ucq_print.specs.Texts.{lines_text}
-use Rattle.ucq_run.specs.Reading.{IsWritten}
+use Rattle.ucq_run.specs.inner.Reading.{IsWritten}
 use Rattle.ucq_run.proofs.Told.{line_at, line_made, lines_about, lines_more}
 use Rattle.ucq_run.proofs.Written.{GoOn, left_in_midst}
 use Rattle.ucq_run.proofs.writing.write_text.Goals as goal

@@ -1,5 +1,5 @@
 use Rattle.std.proofs.Common.{◌≡◌}
-use Rattle.ucq_step.specs.Building.{copies_named}
+use Rattle.ucq_step.specs.inner.Building.{copies_named}
 use Rattle.ucq_step.proofs.rewriting.named_bodies.Given as goal
 
 abbrev pub invariant-loop-copy : goal.invariant-loop-copy

@@ -1,5 +1,5 @@
 use Rattle.std.proofs.Common.{◌≡◌, map, take}
-use Rattle.ucq_step.specs.Building.{side_name}
+use Rattle.ucq_step.specs.inner.Building.{side_name}
 use Rattle.ucq_step.proofs.rewriting.named_terms.Given as goal
 
 abbrev pub invariant-loop-term : goal.invariant-loop-term

@@ -1,6 +1,6 @@
 use Rattle.std.proofs.Common.{◌≡◌, ◌++◌, take}
 use Rattle.ucq_terms.specs.Rewriting.{atoms_named}
-use Rattle.ucq_step.specs.Building.{side_name}
+use Rattle.ucq_step.specs.inner.Building.{side_name}
 use Rattle.ucq_step.proofs.rewriting.push_body.Given as goal
 
 abbrev pub invariant-loop-atom : goal.invariant-loop-atom

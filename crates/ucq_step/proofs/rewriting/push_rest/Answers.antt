@@ -3,7 +3,7 @@ use Rattle.std.proofs.lemmas.List.Elements.{Contains-get_or}
 use Rattle.ucq_terms.specs.declared.Term.TheVariants.{Variable}
 use Rattle.ucq_terms.specs.Syntax.{Atom}
 use Rattle.ucq_terms.proofs.Subsets.{OccursIn-from_atom}
-use Rattle.ucq_step.specs.Building.{side_name, pairs_at}
+use Rattle.ucq_step.specs.inner.Building.{side_name, pairs_at}
 use Rattle.ucq_step.specs.declared.rewriting.Side.TheVariants.{OfQuery}
 use Rattle.ucq_step.proofs.Building.{rest_more}
 use Rattle.ucq_step.proofs.rewriting.push_rest.Goals as goal

@@ -1,6 +1,6 @@
 use Rattle.std.proofs.Common.{◌≡◌, ◌++◌, take}
 use Rattle.ucq_terms.specs.Rewriting.{atoms_named}
-use Rattle.ucq_step.specs.Building.{side_name, left_out, pairs_at}
+use Rattle.ucq_step.specs.inner.Building.{side_name, left_out, pairs_at}
 use Rattle.ucq_step.specs.declared.rewriting.Side.TheVariants.{OfQuery}
 use Rattle.ucq_step.proofs.rewriting.push_rest.Given as goal
 

@@ -1,4 +1,4 @@
-use Rattle.ucq_store.specs.Marks.{AreSettledBelow}
+use Rattle.ucq_store.specs.inner.Marks.{AreSettledBelow}
 use Rattle.ucq_store.proofs.marks.first_unsettled.Given as goal
 
 abbrev pub invariant-loop-row : goal.invariant-loop-row

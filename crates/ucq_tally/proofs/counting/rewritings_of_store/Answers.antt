@@ -1,5 +1,5 @@
 use Rattle.ucq_store.specs.Store.{query_of, state_of}
-use Rattle.ucq_tally.specs.Counts.{AddsRewritings}
+use Rattle.ucq_tally.specs.inner.Counts.{AddsRewritings}
 use Rattle.ucq_tally.proofs.Saturated.{IsSaturated-more}
 use Rattle.ucq_tally.proofs.counting.rewritings_of_store.Goals as goal
 

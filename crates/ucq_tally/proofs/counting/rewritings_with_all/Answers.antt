@@ -2,8 +2,8 @@ use Rattle.std.proofs.Common.{subst, ◌∙◌}
 use Rattle.std.proofs.lemmas.List.{get_or_default}
 use Rattle.ucq_terms.specs.Syntax.{Rule}
 use Rattle.ucq_terms.specs.Rewriting.{rule_at}
-use Rattle.ucq_tally.specs.Sums.{IsSaturated}
-use Rattle.ucq_tally.specs.Counts.{HasRewritings}
+use Rattle.ucq_tally.specs.inner.Sums.{IsSaturated}
+use Rattle.ucq_tally.specs.inner.Counts.{HasRewritings}
 use Rattle.ucq_tally.proofs.Saturated.{IsSaturated-more}
 use Rattle.ucq_tally.proofs.counting.rewritings_with_all.Goals as goal
 

@@ -1,6 +1,6 @@
 use Rattle.ucq_terms.specs.Rewriting.{rule_at}
-use Rattle.ucq_tally.specs.Sums.{IsSaturated, IsSumOf}
-use Rattle.ucq_tally.specs.Counts.{HasRewritings}
+use Rattle.ucq_tally.specs.inner.Sums.{IsSaturated, IsSumOf}
+use Rattle.ucq_tally.specs.inner.Counts.{HasRewritings}
 use Rattle.ucq_tally.proofs.counting.rewritings_with_all.Given as goal
 
 abbrev pub invariant-loop-place : goal.invariant-loop-place

@@ -2,7 +2,7 @@ use Rattle.std.proofs.Common.{◌≡◌, ℕ, Contains, true, false, refl, sym, 
 use Rattle.std.proofs.lemmas.List.Elements.{Contains-get_or}
 use Rattle.ucq_terms.specs.declared.Term.{Term}
 use Rattle.ucq_terms.specs.declared.Term.TheVariants.{Constant, Variable}
-use Rattle.ucq_unify.specs.Classes.{IsFlaggedPrivate}
+use Rattle.ucq_unify.specs.inner.Classes.{IsFlaggedPrivate}
 use Rattle.ucq_unify.proofs.Prefixes.{prefix_more, prefix_all}
 use Rattle.ucq_unify.proofs.classes.calls_for.Goals.{in-Variable+else-is_private, in_default}
 use Rattle.ucq_unify.proofs.classes.calls_for.Goals as goal

@@ -3,7 +3,7 @@ use Rattle.ucq_terms.specs.declared.Term.{Term}
 use Rattle.ucq_terms.specs.declared.Term.TheVariants.{Variable}
 use Rattle.ucq_terms.specs.Unifier.{Node}
 use Rattle.ucq_classes.specs.Classes.{IsClassed}
-use Rattle.ucq_unify.specs.Classes.{IsFlaggedPrivate}
+use Rattle.ucq_unify.specs.inner.Classes.{IsFlaggedPrivate}
 use Rattle.ucq_unify.proofs.classes.calls_for.Given as goal
 
 abbrev pub invariant-loop-term : goal.invariant-loop-term

@@ -5,7 +5,7 @@ use Rattle.ucq_terms.specs.declared.Term.{Term}
 use Rattle.ucq_terms.specs.declared.Term.TheVariants.{Variable}
 use Rattle.ucq_terms.specs.Syntax.{Atom}
 use Rattle.ucq_terms.proofs.Subsets.{OccursIn-from_atom}
-use Rattle.ucq_unify.specs.Classes.{CallsFor, IsCalledAt}
+use Rattle.ucq_unify.specs.inner.Classes.{CallsFor, IsCalledAt}
 use Rattle.ucq_classes.proofs.Numbers.{read_atom}
 use Rattle.ucq_unify.proofs.classes.first_called.Goals.{else-is_none-via-then-is_none+else-calls_for, else-is_none-via-else-is_none}
 use Rattle.ucq_unify.proofs.classes.first_called.Goals as goal

@@ -1,7 +1,7 @@
 use Rattle.std.proofs.Common.{◌≡◌, ◌<◌, ◌∙◌, ℕ, length, get_or, true, false, sym, ap, arith, below_more}
 use Rattle.std.proofs.lemmas.List.{get_or_default}
 use Rattle.ucq_classes.specs.Numbers.{Numbers, width_of}
-use Rattle.ucq_unify.specs.Classes.{IsSpoilt}
+use Rattle.ucq_unify.specs.inner.Classes.{IsSpoilt}
 use Rattle.ucq_unify.proofs.classes.has_spoilt.Goals.{else-index-via-then-index+else-is_spoilt, else-index-via-else-index}
 use Rattle.ucq_unify.proofs.classes.has_spoilt.Goals as goal
 

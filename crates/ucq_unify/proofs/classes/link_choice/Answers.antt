@@ -2,8 +2,8 @@ use Rattle.std.proofs.Common.{ℕ, List, take, sym, ◌∙◌, subst, arith, Opt
 use Rattle.std.proofs.lemmas.List.{take_all}
 use Rattle.ucq_terms.specs.Unifier.{Node, links}
 use Rattle.ucq_classes.specs.Classes.{IsClassed}
-use Rattle.ucq_unify.specs.Pieces.{pairs_of}
-use Rattle.ucq_unify.specs.Sides.{AreNumbered}
+use Rattle.ucq_unify.specs.inner.Growing.{pairs_of}
+use Rattle.ucq_unify.specs.inner.Sides.{AreNumbered}
 use Rattle.ucq_unify.proofs.Choices.{pair_from_head}
 use Rattle.ucq_unify.proofs.Linked.{links_of-more}
 use Rattle.ucq_unify.proofs.classes.link_choice.Goals as goal

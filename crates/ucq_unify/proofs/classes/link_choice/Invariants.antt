@@ -1,7 +1,7 @@
 use Rattle.std.proofs.Common.{◌≡◌, take}
 use Rattle.ucq_terms.specs.Unifier.{links}
 use Rattle.ucq_classes.specs.Classes.{IsClassed}
-use Rattle.ucq_unify.specs.Pieces.{pairs_of}
+use Rattle.ucq_unify.specs.inner.Growing.{pairs_of}
 use Rattle.ucq_unify.proofs.classes.link_choice.Given as goal
 
 abbrev pub invariant-loop-place : goal.invariant-loop-place

@@ -4,9 +4,9 @@ use Rattle.std.proofs.lemmas.Result.{on_ok_weaker}
 use Rattle.std.proofs.Common.{set}
 use Rattle.ucq_terms.proofs.Lists.{length-positive}
 use Rattle.ucq_classes.specs.Classes.{Labels}
-use Rattle.ucq_unify.specs.Sides.{AreNumbered}
-use Rattle.ucq_unify.specs.Pieces.{pairs_of, with_head}
-use Rattle.ucq_unify.specs.Search.{HasFound, HasBranched}
+use Rattle.ucq_unify.specs.inner.Sides.{AreNumbered}
+use Rattle.ucq_unify.specs.inner.Growing.{pairs_of, with_head}
+use Rattle.ucq_unify.specs.inner.Search.{HasFound, HasBranched}
 use Rattle.ucq_unify.proofs.Choices.{free_places-with_head, with_head-newest, without_head}
 use Rattle.ucq_unify.proofs.Growth.{grown_more}
 use Rattle.ucq_unify.proofs.Searched.{found_none, found_closed, found_open, has_branched_none, has_branched_skip, has_branched_more}

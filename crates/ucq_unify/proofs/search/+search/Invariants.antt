@@ -1,5 +1,5 @@
 use Rattle.std.proofs.Common.{◌≡◌, ◌+◌, ◌*◌}
-use Rattle.ucq_unify.specs.Search.{HasBranched}
+use Rattle.ucq_unify.specs.inner.Search.{HasBranched}
 use Rattle.ucq_unify.proofs.Choices.{free_places}
 use Rattle.ucq_unify.proofs.search.+search.Given as goal
 

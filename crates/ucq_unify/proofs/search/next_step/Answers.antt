@@ -1,7 +1,7 @@
 use Rattle.std.proofs.Common.{◌≤◌, refl, sym, subst, inl, inr, arith}
 use Rattle.ucq_terms.specs.Unifier.{links}
-use Rattle.ucq_unify.specs.Pieces.{pairs_of}
-use Rattle.ucq_unify.specs.Sides.{AreNumbered}
+use Rattle.ucq_unify.specs.inner.Growing.{pairs_of}
+use Rattle.ucq_unify.specs.inner.Sides.{AreNumbered}
 use Rattle.ucq_unify.proofs.Growth.{unlike_blocks, clash_blocks, called_for, closed_unifies}
 use Rattle.ucq_unify.proofs.Clashing.{clash_found, clash_none, called_from, called_at}
 use Rattle.ucq_unify.proofs.search.next_step.Goals as goal

@@ -2,7 +2,7 @@ use Rattle.std.proofs.Common.{◌≡◌, ◌++◌, ◌∷◌, [], ℕ, List, tak
 use Rattle.std.proofs.lemmas.List.{append-nil}
 use Rattle.std.specs.List.Sorted.{IsStrictlyIncreasing}
 use Rattle.ucq_terms.specs.Unifier.{places}
-use Rattle.ucq_unify.specs.Pieces.{pairs_of, head_at}
+use Rattle.ucq_unify.specs.inner.Growing.{pairs_of, head_at}
 use Rattle.ucq_unify.proofs.Choices.{pair_at, pairs_of-more, pairs_rise}
 use Rattle.ucq_unify.proofs.search.piece_of.Goals.{in-Some+in_ok-push, in_default}
 use Rattle.ucq_unify.proofs.search.piece_of.Goals as goal

@@ -1,5 +1,5 @@
 use Rattle.std.proofs.Common.{◌≡◌, take}
-use Rattle.ucq_unify.specs.Pieces.{pairs_of}
+use Rattle.ucq_unify.specs.inner.Growing.{pairs_of}
 use Rattle.ucq_unify.proofs.search.piece_of.Given as goal
 
 abbrev pub invariant-loop-place : goal.invariant-loop-place

@@ -1,7 +1,7 @@
 use Rattle.std.proofs.Common.{◌≡◌, ℕ, List, length, refl, sym, ap, ◌∙◌, subst, arith, Option}
-use Rattle.ucq_unify.specs.Sides.{AreNumbered}
-use Rattle.ucq_unify.specs.Search.{HasBranched, HasRooted}
-use Rattle.ucq_unify.specs.Pieces.{IsOpen}
+use Rattle.ucq_unify.specs.inner.Sides.{AreNumbered}
+use Rattle.ucq_unify.specs.inner.Search.{HasBranched, HasRooted}
+use Rattle.ucq_unify.specs.inner.Growing.{IsOpen}
 use Rattle.ucq_unify.proofs.Choices.{no_heads-no_pairs}
 use Rattle.ucq_unify.proofs.Growth.{grown_first}
 use Rattle.ucq_unify.proofs.Found.{all_rooted}

@@ -1,5 +1,5 @@
 use Rattle.std.proofs.Common.{◌≡◌}
-use Rattle.ucq_unify.specs.Search.{HasRooted}
+use Rattle.ucq_unify.specs.inner.Search.{HasRooted}
 use Rattle.ucq_unify.proofs.search.search_roots.Given as goal
 
 abbrev pub invariant-loop-root : goal.invariant-loop-root

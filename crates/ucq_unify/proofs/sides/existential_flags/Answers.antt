@@ -1,7 +1,7 @@
 use Rattle.std.proofs.Common.{◌<◌, List, subst, sym, arith}
 use Rattle.ucq_terms.specs.declared.Term.TheVariants.{Variable}
 use Rattle.ucq_terms.specs.Syntax.{Atom, OccursIn}
-use Rattle.ucq_unify.specs.Sides.{HasFlags}
+use Rattle.ucq_unify.specs.inner.Sides.{HasFlags}
 use Rattle.ucq_unify.proofs.Flags.{HasFlags-more}
 use Rattle.ucq_unify.proofs.sides.existential_flags.Goals as goal
 

@@ -1,4 +1,4 @@
-use Rattle.ucq_unify.specs.Sides.{HasFlags}
+use Rattle.ucq_unify.specs.inner.Sides.{HasFlags}
 use Rattle.ucq_unify.proofs.sides.existential_flags.Given as goal
 
 abbrev pub invariant-loop-variable : goal.invariant-loop-variable

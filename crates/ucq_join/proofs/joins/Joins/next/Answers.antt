@@ -1,7 +1,7 @@
 use Rattle.std.proofs.Common.{rules, ◌≡◌, ◌+◌, [], ℕ, true, List, ◌⊎◌, sym, ◌∙◌, subst, inr, arith}
 use Rattle.std.proofs.lemmas.List.Elements.{same_from_all_zip}
-use Rattle.ucq_join.specs.Copies.{IsWidthOf, IsReadyFor, AreNumbered}
-use Rattle.ucq_join.specs.Naming.{IsNamed}
+use Rattle.ucq_join.specs.inner.Copies.{IsWidthOf, IsReadyFor, AreNumbered}
+use Rattle.ucq_join.specs.inner.Naming.{IsNamed}
 use Rattle.ucq_join.specs.Walk.{Walk, IsJoin, IsLast, IsNext, GoesOn}
 use Rattle.ucq_join.proofs.Even.{few_numbers, numbered_copies, ready_with, walking_with}
 use Rattle.ucq_join.proofs.Sets.{start_few}

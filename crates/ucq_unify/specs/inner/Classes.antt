@@ -6,7 +6,7 @@ use Rattle.ucq_terms.specs.Syntax.{Query, Rule}
 use Rattle.ucq_terms.specs.Unifier.{Node, constant, of_query, of_copy, atom_at, AreJoined, KeepsPredicate}
 use Rattle.ucq_classes.specs.Numbers.{Numbers, width_of}
 use Rattle.ucq_classes.specs.Classes.{atom_links}
-use Rattle.ucq_unify.specs.Pieces.{pairs_of, head_at}
+use Rattle.ucq_unify.specs.inner.Growing.{pairs_of, head_at}
 
 -- the links of a place and the head that a choice has for it
 abbrev pub place_links : Query → Rule → ℕ → Option ℕ → List (Node × Node)

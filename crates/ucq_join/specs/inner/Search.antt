@@ -4,7 +4,7 @@ use Rattle.std.specs.List.{list_any}
 use Rattle.ucq_terms.specs.Syntax.{Query, Rule}
 use Rattle.ucq_classes.specs.Numbers.{Numbers}
 use Rattle.ucq_join.specs.Walk.{ArePieces, IsJoin, Walk, IsNext, IsLast}
-use Rattle.ucq_join.specs.Copies.{IsWidthOf, IsReadyFor}
+use Rattle.ucq_join.specs.inner.Copies.{IsWidthOf, IsReadyFor}
 
 -- whether a pair has the place of the query's atom
 abbrev pub has_place : List (ℕ × ℕ) → ℕ → Bool

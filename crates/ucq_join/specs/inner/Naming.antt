@@ -6,7 +6,7 @@ use Rattle.ucq_terms.specs.declared.Term.TheVariants.{Constant, Variable}
 use Rattle.ucq_classes.specs.Numbers.{first, IsNumbering}
 use Rattle.ucq_classes.specs.Classes.{Labels, IsWhole}
 use Rattle.ucq_join.specs.Names.{Named}
-use Rattle.ucq_join.specs.Copies.{HasWidth}
+use Rattle.ucq_join.specs.inner.Copies.{HasWidth}
 
 -- the constant with the label as its number, or else a variable
 abbrev pub name_by : List ℕ → ℕ → Term

@@ -3,7 +3,7 @@ use Rattle.std.specs.Prelude.{◌≡◌, ℕ, ◌<◌, ◌⊎◌, true, List, le
 use Rattle.ucq_terms.specs.declared.Term.{Term}
 use Rattle.ucq_terms.specs.Syntax.{Atom, Query, atom_image}
 use Rattle.ucq_terms.specs.Unifier.{atom_at}
-use Rattle.ucq_fold.specs.Agreement.{pair_alike, agree}
+use Rattle.ucq_fold.specs.inner.Agreement.{pair_alike, agree}
 
 -- The atom that the order visits at a place, and its image.
 abbrev pub visited : Query → List ℕ → ℕ → Atom

@@ -4,7 +4,7 @@ use Rattle.std.specs.Global.{Vec}
 use Rattle.indexmap.specs.IndexSet.{IndexSet}
 use Rattle.ucq_terms.specs.Syntax.{Atom, Query}
 use Rattle.ucq_eval.specs.declared.split.Search.{Search}
-use Rattle.ucq_eval.specs.Join.{IsCollected}
+use Rattle.ucq_eval.specs.inner.Join.{IsCollected}
 
 -- the tuples in the keys of a set
 abbrev pub tuples_in : List (Vec ℕ) → List (List ℕ)

@@ -8,7 +8,7 @@ use Rattle.ucq_store.specs.declared.RowState.{RowState}
 use Rattle.ucq_store.specs.declared.RowState.TheVariants.{Waiting, Open, Claimed, Done, Skipped}
 use Rattle.ucq_store.specs.Store.{Store, query_of, state_of, IsFinished, IsCut}
 use Rattle.ucq_store.specs.Lawful.{IsLawfulByLevels}
-use Rattle.ucq_tally.specs.Sums.{IsSaturated, IsSumOf}
+use Rattle.ucq_tally.specs.inner.Sums.{IsSaturated, IsSumOf}
 use Rattle.ucq_tally.specs.declared.counting.Tally.{Tally}
 
 -- The sets of pieces that make an aggregate, each once. A set is the list of its places, rising.

@@ -4,7 +4,7 @@ use Rattle.ucq_terms.specs.Syntax.{Query, Rule}
 use Rattle.ucq_terms.specs.Unifier.{IsPieceUnifier}
 use Rattle.ucq_unify.specs.declared.search.Step.{Step}
 use Rattle.ucq_unify.specs.declared.search.Step.TheVariants.{Blocked, Closed, Open}
-use Rattle.ucq_unify.specs.Pieces.{pairs_of, head_at, IsWithin, StartsAt, IsCalledFor, IsSearched, IsBranched, IsRooted}
+use Rattle.ucq_unify.specs.inner.Growing.{pairs_of, head_at, IsWithin, StartsAt, IsCalledFor, IsSearched, IsBranched, IsRooted}
 
 -- no piece-unifier has the choice's pairs and no place below the root
 pub record IsBlocked (q : Query) (rule : Rule) (root : ℕ) (choice : List (Option ℕ)) : Type 0 where

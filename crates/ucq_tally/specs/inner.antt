@@ -1,0 +1,4 @@
+-- Words of contracts that no other crate sees.
+pub mod Asked
+pub mod Counts
+pub mod Sums
