@@ -8,7 +8,7 @@ use indexmap::IndexSet;
 use ucq_facts::{Facts, Matches};
 use ucq_hom::bindings::Bindings;
 use ucq_hom::matching::match_terms;
-use ucq_terms::{Atom, NoMemory, Query, Term};
+use ucq_terms::{ATOMS, Atom, NoMemory, Query, Term};
 
 /// What the term is bound to. A constant is bound to itself.
 fn value(bindings: &Bindings, term: Term) -> Option<Term>

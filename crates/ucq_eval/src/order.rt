@@ -2,6 +2,7 @@
 ghost use Rattle.std.specs.Prelude.{◌≡◌, ◌≢◌, AllPairs, map, IfOk};
 ghost use Rattle.ucq_eval.specs.Order.{AreInOrder, ArePrinted, HaveTexts, IsPrinted, tuples_beside};
 
+use crate::split::share;
 use crate::texts::numbers_text;
 use indexmap::IndexSet;
 use rayon::prelude::*;
@@ -49,18 +50,21 @@ fn with_texts(
     Ok(all)
 }
 
-/// The same by several threads, where there are many tuples.
+/// The same by up to so many threads.
 fn with_texts_split<R: Threads + Sync>(
     rt: &R,
     alloc: Global,
+    threads: usize,
     names: &Names,
     found: IndexSet<Vec<u32>>,
 ) -> Result<Vec<Printed>, NoMemory>
     ensures { IfOk result (λ all. ArePrinted names.now (map (λ t. t.items) found.keys) all.items) }
 {
     let tuples: Vec<Vec<u32>> = found.into_iter().collect(alloc)?;
+    let least = share(tuples.len(), threads);
     tuples
         .into_par_iter()
+        .with_min_len(least)
         .map(
             |numbers: Vec<u32>| -> Result<Printed, NoMemory>
                 ensures { IfOk result (IsPrinted names.entry.now numbers) }
@@ -84,10 +88,11 @@ pub(crate) fn in_order(
     Ok(all)
 }
 
-/// The same by several threads, where there are many tuples.
+/// The same by up to so many threads, and sorted by as many as there are processors.
 pub(crate) fn in_order_split<R: Threads + Sync>(
     rt: &R,
     alloc: Global,
+    threads: usize,
     names: &Names,
     found: IndexSet<Vec<u32>>,
 ) -> Result<Vec<Printed>, NoMemory>
@@ -95,7 +100,7 @@ pub(crate) fn in_order_split<R: Threads + Sync>(
     ensures texts { IfOk result (λ all. HaveTexts names.now all.items) }
 {
     differ(&found);
-    let mut all = with_texts_split(rt, alloc, names, found)?;
+    let mut all = with_texts_split(rt, alloc, threads, names, found)?;
     par_sort_unstable(rt, all.as_mut_slice());
     Ok(all)
 }

@@ -9,6 +9,7 @@ use crate::order::in_order_split;
 use crate::printed::Answers;
 use crate::texts::Tuple;
 use indexmap::IndexSet;
+use rayon::current_num_threads;
 use rayon::prelude::*;
 use std::alloc::Global;
 use std::thread::Threads;
@@ -86,10 +87,16 @@ fn put_into(
     Ok(held)
 }
 
+/// How many of so many things are a thread's share, where there are no more than these threads.
+pub(crate) fn share(count: usize, threads: usize) -> usize {
+    count.div_ceil(threads.max(1))
+}
+
 /// The tuples of constants with which some member maps into the facts. Each thread searches for a part of the members.
 fn found_by_threads<R: Threads + Sync>(
     rt: &R,
     alloc: Global,
+    threads: usize,
     union: &Union,
     facts: &Facts,
 ) -> Result<IndexSet<Vec<u32>>, NoMemory>
@@ -97,7 +104,7 @@ fn found_by_threads<R: Threads + Sync>(
 {
     (0..union.len())
         .into_par_iter()
-        .with_min_len(1)
+        .with_min_len(share(union.len() as usize, threads))
         .fold(
             || -> Result<Search, NoMemory>
                 ensures { IfOk result (λ search. search.found.keys ≡ []) }
@@ -126,10 +133,12 @@ fn found_by_threads<R: Threads + Sync>(
         )
 }
 
-/// The same as `answers_with_texts`, by several threads, each of which joins a part of the members and of the tuples.
+/// The same as `answers_with_texts`, by up to so many threads, each of which joins a part of the members and makes the texts
+/// of a part of the tuples. The texts are sorted by as many threads as there are processors.
 pub fn answers_with_texts_split<'n, R: Threads + Sync>(
     rt: &R,
     alloc: Global,
+    threads: usize,
     union: &Union,
     names: &'n Names,
     facts: &Facts,
@@ -137,12 +146,12 @@ pub fn answers_with_texts_split<'n, R: Threads + Sync>(
     ensures names { IfOk result (λ answers. answers.names ≡ names.now) }
     ensures answers { IfOk result (λ answers. AreAnswers names.now union.now facts.now answers.tuples) }
 {
-    let found = found_by_threads(rt, alloc, union, facts)?;
-    let all = in_order_split(rt, alloc, names, found)?;
+    let found = found_by_threads(rt, alloc, threads, union, facts)?;
+    let all = in_order_split(rt, alloc, threads, names, found)?;
     Ok(Answers::of(names, all))
 }
 
-/// The same without their texts.
+/// The same without their texts, by a thread for each processor.
 pub fn answers_split<R: Threads + Sync>(
     rt: &R,
     alloc: Global,
@@ -152,5 +161,6 @@ pub fn answers_split<R: Threads + Sync>(
 ) -> Result<Vec<Tuple>, NoMemory>
     ensures { IfOk result (λ tuples. AreAnswers names.now union.now facts.now tuples.items) }
 {
-    answers_with_texts_split(rt, alloc, union, names, facts)?.into_tuples(alloc)
+    let threads = current_num_threads(rt);
+    answers_with_texts_split(rt, alloc, threads, union, names, facts)?.into_tuples(alloc)
 }

@@ -65,7 +65,10 @@ pub fn solve_by_crew<'p, G: Gate + Sync, R: Threads + Wait + Sync>(
     }
     let store = rounds(rt, alloc, &asked.problem, asked.budget, asked.workers, gate)?;
     let answers = match answered_union(alloc, asked.form, &store)? {
-        Some(union) => answers_with_texts_split(rt, alloc, &union, &asked.names, &asked.facts)?,
+        Some(union) => {
+            let threads = asked.workers as usize;
+            answers_with_texts_split(rt, alloc, threads, &union, &asked.names, &asked.facts)?
+        }
         None => Answers::none(alloc, &asked.names),
     };
     Ok(Solved { store, answers })

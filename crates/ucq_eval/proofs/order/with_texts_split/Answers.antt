@@ -1,6 +1,6 @@
 use Rattle.std.proofs.Common.{◌≡◌, ◌∙◌, ap, refl}
 use Rattle.indexmap.proofs.CallerLemmas.{Drains-YieldsInOrder}
-use Rattle.rayon.specs.Lists.{vec_items}
+use Rattle.rayon.specs.Lists.{vec_items, min_len_base}
 use Rattle.ucq_eval.proofs.Printing.{printed_where_asked}
 use Rattle.ucq_eval.proofs.order.with_texts_split.Goals as goal
 
@@ -12,5 +12,5 @@ returns g c =
     let taken = Drains-YieldsInOrder _ _ c.into_iter.result ran.0 given.2 (to_end.0, (ran.1.0, ran.1.1, to_end.1)) in
     let made = c.in_ok-collect.ensures in
     let chain = made.1 in
-    let all : chain.0 ≡ c.args.found.keys = chain.1 ∙ ap vec_items c.map.ensures.base ∙ c.into_par_iter.ensures ∙ ran.2.0 ∙ taken ∙ given.0 in
+    let all : chain.0 ≡ c.args.found.keys = chain.1 ∙ ap (λ b. vec_items (min_len_base b)) c.map.ensures.base ∙ ap vec_items c.with_min_len.ensures.base ∙ c.into_par_iter.ensures ∙ ran.2.0 ∙ taken ∙ given.0 in
     printed_where_asked _ c.args.names.now chain.0 c.args.found.keys made.0 c.in_ok-collect.field-0 all chain.2 made.2 (rw (c.map.ensures.f) refl)
