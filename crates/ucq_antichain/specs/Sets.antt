@@ -11,10 +11,6 @@ pub record Sets : Type 0 where
 abbrev pub IsIn : Sets → ℕ → ℕ → Type 0
 IsIn sets mark row = bit_at (slice_index sets.words (mark * sets.width + row / 64)) (row % 64) ≡ 1
 
--- the row is among those of eight words
-abbrev pub IsAmong : List ℕ → ℕ → Type 0
-IsAmong words row = bit_at (slice_index words (row / 64 % 8)) (row % 64) ≡ 1
-
 -- a row that was in a set stays there
 pub record Keeps (before after : Sets) : Type 0 where
   pub width : after.width ≡ before.width
