@@ -14,7 +14,6 @@ IsKey marks others key = (key ≡ 16384) ⊎ ((k : ℕ) × (k < length marks) ×
 
 -- sets with one row more
 pub record HasMore (before after : Sets) (marks : List ℕ) (row : ℕ) : Type 0 where
-  pub every : IsIn after 128 row
   pub has : (k : ℕ) → k < length marks → IsIn after (get_or marks k 0) row
   pub keeps : Keeps before after
 
@@ -62,8 +61,7 @@ module _ (groups : ℕ) (signatures : List Marks) (all words : Sets) (chains : C
   ]
     where
       of_new : IsMarkOf m.first mark → IsIn after mark (of row)
-      of_new (inl e) = subst (λ (k : ℕ). IsIn after k (of row)) (sym e) h.every
-      of_new (inr (low, bit)) = let (k, j, e) = l.all mark low bit in subst (λ (k : ℕ). IsIn after k (of row)) e (h.has k j)
+      of_new (low, bit) = let (k, j, e) = l.all mark low bit in subst (λ (k : ℕ). IsIn after k (of row)) e (h.has k j)
 
   keyed : (after : Chained) (key : ℕ) → IsLonger chains after key row → IsKey list m.second key → (r : ℕ) → r < length more → HasKey after (signature_at more r) r
   keyed after key h k r n = elim (cases_eq r row) [

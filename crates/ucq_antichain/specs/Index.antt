@@ -18,9 +18,9 @@ no_marks = record { first = 0; second = 0 }
 abbrev pub signature_at : List Marks → ℕ → Marks
 signature_at signatures row = slice_index_or signatures row no_marks
 
--- 128 is taken to be a mark of every query
+-- the number is a mark
 abbrev pub IsMarkOf : ℕ → ℕ → Type 0
-IsMarkOf marks mark = (mark ≡ 128) ⊎ ((mark < 128) × (bit_at marks mark ≡ 1))
+IsMarkOf marks mark = (mark < 128) × (bit_at marks mark ≡ 1)
 
 -- the key is the pair of a mark with one of these others
 pub record IsKeyBeside (others first key : ℕ) : Type 0 where

@@ -10,7 +10,7 @@ use crate::bits::next_bit;
 use crate::chains::{Chains, NO_PAIR, pair};
 use crate::marked::Marked;
 use crate::push_within;
-use crate::row_sets::{EVERY, RowSets};
+use crate::row_sets::RowSets;
 use std::alloc::Global;
 use std::marker::Model;
 use ucq_hom::Signature;

@@ -8,10 +8,10 @@ use std::alloc::Global;
 use std::marker::Model;
 use ucq_terms::NoMemory;
 
-// What every query is taken to have beside its 128 marks.
-pub(crate) const EVERY: u32 = 128;
+// How many marks there are.
+const MARKS: usize = 128;
 
-/// A set of rows for each mark, and one for `EVERY`.
+/// A set of rows for each mark. Words of the same rows stand together, one for each mark.
 #[derive(Drop)]
 pub struct RowSets {
     width: usize,
@@ -26,18 +26,16 @@ impl Model for RowSets {
 
     ghost view = { λ s. record { width = s.width; words = s.words.items } };
 
-    ghost invariant = { λ s. (s.width ≤ 1024) × (length s.words.items ≡ 129 * s.width) };
+    ghost invariant = { λ s. (s.width ≤ 1024) × (length s.words.items ≡ 128 * s.width) };
 }
 
-// Where the word stands of a set.
-fn place(width: usize, mark: u32, word: usize) -> usize
-    requires narrow { width ≤ 1024 }
-    requires mark { mark ≤ 128 }
-    requires word { word < width }
-    ensures place { result ≡ mark * width + word }
-    ensures within { result < 129 * width }
+// Where the word stands of the set of a mark.
+fn place(mark: u32, word: usize) -> usize
+    requires mark { mark < 128 }
+    requires word { word < 67108864 }
+    ensures { result ≡ 128 * word + mark }
 {
-    mark as usize * width + word
+    MARKS * word + mark as usize
 }
 
 impl RowSets {
@@ -46,47 +44,45 @@ impl RowSets {
         requires { width ≤ 1024 }
         ensures { IfOk result (λ s. s.width ≡ width) }
     {
-        let words = vec![in alloc; 0; 129 * width]?;
+        let words = vec![in alloc; 0; MARKS * width]?;
         Ok(RowSets { width, words })
     }
 
     // Adds a row to the set of a mark.
     fn insert(&mut self, mark: u32, row: u32)
-        requires mark { mark ≤ 128 }
+        requires mark { mark < 128 }
         requires row { row / 64 < self.old.width }
         ensures has { IsIn self.new mark row }
         ensures keeps { Keeps self.old self.new }
     {
-        let at = place(self.width, mark, row as usize / 64);
+        let at = place(mark, row as usize / 64);
         self.words[at] = with_bit(self.words[at], row % 64);
     }
 
-    /// Adds a row to the set of each of the marks, and to that of `EVERY`.
+    /// Adds a row to the set of each of the marks.
     pub fn insert_all(&mut self, marks: &[u32], row: u32)
         requires marks { (k : ℕ) → k < length marks.now → slice_index marks.now k < 128 }
         requires row { row / 64 < self.old.width }
-        ensures every { IsIn self.new 128 row }
         ensures has { (k : ℕ) → k < length marks.now → IsIn self.new (slice_index marks.now k) row }
         ensures keeps { Keeps self.old self.new }
     {
-        self.insert(EVERY, row);
         for mark in marks {
             self.insert(*mark, row);
         }
     }
 
-    /// A word of what the sets of these marks and of `EVERY` have in common.
+    /// A word of what the sets of these marks have in common, which is every row where there is no mark.
     pub fn common(&self, marks: &[u32], word: usize) -> u64
         requires marks { (k : ℕ) → k < length marks.now → slice_index marks.now k < 128 }
         requires word { word < self.now.width }
-        ensures { (r : ℕ) → r / 64 ≡ word → IsIn self.now 128 r → ((k : ℕ) → k < length marks.now → IsIn self.now (slice_index marks.now k) r) → bit_at result (r % 64) ≡ 1 }
+        ensures { (r : ℕ) → r / 64 ≡ word → ((k : ℕ) → k < length marks.now → IsIn self.now (slice_index marks.now k) r) → bit_at result (r % 64) ≡ 1 }
     {
-        let mut rows = self.words[place(self.width, EVERY, word)];
+        let mut rows = u64::MAX;
         for mark in marks {
             if rows == 0 {
                 return 0;
             }
-            rows = both(rows, self.words[place(self.width, *mark, word)]);
+            rows = both(rows, self.words[place(*mark, word)]);
         }
         rows
     }

@@ -17,8 +17,8 @@ invariant_of-self c =
       subst (λ (ms : List Marks). IsIndex f.groups ms c.insert_all.new.self c.insert_all-2.new.self c.push.new.self) (sym (c.push_within.ensures.items ∙ ap (λ (s : Marks). f.signatures.items ++ s ∷ []) c.signature-2.ensures))
           (IsIndex-pushed f.groups f.signatures.items f.all f.words f.chains i m c.marks-marks.result.now c.len-row.result room at c.marks-marks.ensures
           c.insert_all.new.self c.insert_all-2.new.self c.push.new.self c.rarest-key.result
-          (record { every = c.insert_all.ensures.every; has = c.insert_all.ensures.has; keeps = c.insert_all.ensures.keeps })
-          (record { every = c.insert_all-2.ensures.every; has = c.insert_all-2.ensures.has; keeps = c.insert_all-2.ensures.keeps })
+          (record { has = c.insert_all.ensures.has; keeps = c.insert_all.ensures.keeps })
+          (record { has = c.insert_all-2.ensures.has; keeps = c.insert_all-2.ensures.keeps })
           (record { has = c.push.ensures.has c.len-row.result size; keeps = c.push.ensures.keeps; longer = c.push.ensures.length; ends = c.push.ensures.ends }) key),
       omega (arith, capacity, c.push_within.ensures.capacity),
       omega (arith, links, c.push.ensures.room),
