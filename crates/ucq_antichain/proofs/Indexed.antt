@@ -1,27 +1,42 @@
 -- An index stays right where a row is added.
-use Rattle.std.proofs.Common.{◌≡◌, ℕ, ◌+◌, ◌*◌, ◌<◌, ◌⊎◌, inl, inr, sym, ◌∙◌, List, [], ◌∷◌, ◌++◌, length, get_or, arith, subst}
-use Rattle.std.specs.Int.{bit_at}
+use Rattle.std.proofs.Common.{◌≡◌, ℕ, ◌+◌, ◌*◌, ◌/◌, ◌<◌, ◌≤◌, ◌⊎◌, inl, inr, sym, ap, ◌∙◌, List, [], ◌∷◌, ◌++◌, length, get_or, arith, subst}
 use Rattle.std.proofs.lemmas.Bool.{cases_eq}
 use Rattle.std.proofs.lemmas.List.{get_or_append_left, get_or_at, length-append}
 use Rattle.ucq_hom.specs.Signature.{Marks}
 use Rattle.ucq_antichain.specs.Sets.{Sets, IsIn, Keeps, IsListOf}
-use Rattle.ucq_antichain.specs.Index.{no_marks, signature_at, IsMarkOf, HasKey, IsIndex}
+use Rattle.ucq_antichain.specs.Chains.{Chained, IsInChain}
+use Rattle.ucq_antichain.specs.Chains.{Keeps as Stay}
+use Rattle.ucq_antichain.specs.Index.{no_marks, signature_at, IsMarkOf, IsKeyBeside, IsKeyOf, HasKey, IsIndex}
 
 -- how a key was chosen
-abbrev pub IsKey : List ℕ → ℕ → Type 0
-IsKey marks key = (key ≡ 128) ⊎ ((k : ℕ) × (k < length marks) × (get_or marks k 0 ≡ key))
+abbrev pub IsKey : List ℕ → ℕ → ℕ → Type 0
+IsKey marks others key = (key ≡ 16384) ⊎ ((k : ℕ) × (k < length marks) × IsKeyBeside others (get_or marks k 0) key)
 
--- a set with one row more
-pub record HasMore (before after : Sets) (key row : ℕ) : Type 0 where
-  pub has : IsIn after key row
+-- sets with one row more
+pub record HasMore (before after : Sets) (marks : List ℕ) (row : ℕ) : Type 0 where
+  pub has : (k : ℕ) → k < length marks → IsIn after (get_or marks k 0) row
   pub keeps : Keeps before after
 
-key_own : (list : List ℕ) (marks key : ℕ) → IsListOf list marks → IsKey list key → IsMarkOf marks key
-key_own list marks key l (inl e) = inl e
-key_own list marks key l (inr (k, n, e)) = inr (subst (λ (m : ℕ). (m < 128) × (bit_at marks m ≡ 1)) e (l.only k n))
+-- chains with one row more
+pub record IsLonger (before after : Chained) (key row : ℕ) : Type 0 where
+  pub has : IsInChain after key row
+  pub keeps : Stay before after
+  pub longer : length after.next ≡ length before.next + 1
+  pub ends : get_or after.next 0 0 ≡ 0
 
-module _ (blocks : ℕ) (signatures : List Marks) (all first second : Sets) (i : IsIndex blocks signatures all first second) (m : Marks) (list : List ℕ) (row : ℕ)
-    (room : length signatures < 512 * blocks) (at : row ≡ length signatures) (l : IsListOf list m.first) where
+pub key_own : (list : List ℕ) (m : Marks) (key : ℕ) → IsListOf list m.first → IsKey list m.second key → IsKeyOf m key
+key_own list m key l (inl e) = inl e
+key_own list m key l (inr (k, n, beside)) = let (low, bit) = l.only k n in inr (get_or list k 0, low, bit, beside)
+
+key_low : (m : Marks) (key : ℕ) → IsKeyOf m key → key ≤ 16384
+key_low m key (inl e) = omega arith
+key_low m key (inr (first, low, bit, beside)) = let s = beside.low in let e = beside.key_is in omega arith
+
+pub chosen_low : (list : List ℕ) (m : Marks) (key : ℕ) → IsListOf list m.first → IsKey list m.second key → key ≤ 16384
+chosen_low list m key l k = key_low m key (key_own list m key l k)
+
+module _ (groups : ℕ) (signatures : List Marks) (all words : Sets) (chains : Chained) (i : IsIndex groups signatures all words chains) (m : Marks) (list : List ℕ) (row : ℕ)
+    (room : length signatures < 4096 * groups) (at : row ≡ length signatures) (l : IsListOf list m.first) where
   abbrev more : List Marks
   more = signatures ++ m ∷ []
 
@@ -34,46 +49,60 @@ module _ (blocks : ℕ) (signatures : List Marks) (all first second : Sets) (i :
   new : signature_at more row ≡ m
   new = get_or_at signatures m [] no_marks row (sym at)
 
-  keyed : (before after : Sets) (key : ℕ) → ((r : ℕ) → r < length signatures → HasKey before (signature_at signatures r).first r) → HasMore before after key row → IsKey list key →
-      (r : ℕ) → r < length more → HasKey after (signature_at more r).first r
-  keyed before after key each h k r n = elim (cases_eq r row) [
+  -- the sets have each row, or each word of a row
+  marked : (of : ℕ → ℕ) (before after : Sets) → HasMore before after list (of row) →
+      ((r mark : ℕ) → r < length signatures → IsMarkOf (signature_at signatures r).first mark → IsIn before mark (of r)) →
+      (r mark : ℕ) → r < length more → IsMarkOf (signature_at more r).first mark → IsIn after mark (of r)
+  marked of before after h each r mark n own = elim (cases_eq r row) [
+    | inl e ↦ subst (λ (j : ℕ). IsIn after mark (of j)) (sym e) (of_new (subst (λ (s : Marks). IsMarkOf s.first mark) (subst (λ (j : ℕ). signature_at more j ≡ m) (sym e) new) own))
+    | inr ne ↦
+        let inside : r < length signatures = omega (arith, n, size, at, ne) in
+        h.keeps.each mark (of r) (each r mark inside (subst (λ (s : Marks). IsMarkOf s.first mark) (old r inside) own))
+  ]
+    where
+      of_new : IsMarkOf m.first mark → IsIn after mark (of row)
+      of_new (low, bit) = let (k, j, e) = l.all mark low bit in subst (λ (k : ℕ). IsIn after k (of row)) e (h.has k j)
+
+  keyed : (after : Chained) (key : ℕ) → IsLonger chains after key row → IsKey list m.second key → (r : ℕ) → r < length more → HasKey after (signature_at more r) r
+  keyed after key h k r n = elim (cases_eq r row) [
     | inl e ↦ record {
       key = key;
-      own = subst (λ (s : Marks). IsMarkOf s.first key) (sym (subst (λ (j : ℕ). signature_at more j ≡ m) (sym e) new)) (key_own list m.first key l k);
-      among = subst (IsIn after key) (sym e) h.has;
+      own = subst (λ (s : Marks). IsKeyOf s key) (sym (subst (λ (j : ℕ). signature_at more j ≡ m) (sym e) new)) (key_own list m key l k);
+      among = subst (IsInChain after key) (sym e) h.has;
     }
     | inr ne ↦
         let inside : r < length signatures = omega (arith, n, size, at, ne) in
-        let has = each r inside in
+        let has = i.chained.keyed r inside in
         record {
           key = has.key;
-          own = subst (λ (s : Marks). IsMarkOf s.first has.key) (sym (old r inside)) has.own;
+          own = subst (λ (s : Marks). IsKeyOf s has.key) (sym (old r inside)) has.own;
           among = h.keeps.each has.key r has.among;
         }
   ]
 
-  marked : (mid after : Sets) → HasMore all mid 128 row → Keeps mid after → ((k : ℕ) → k < length list → IsIn after (get_or list k 0) row) →
-      (r mark : ℕ) → r < length more → IsMarkOf (signature_at more r).first mark → IsIn after mark r
-  marked mid after h keeps each r mark n own = elim (cases_eq r row) [
-    | inl e ↦ subst (IsIn after mark) (sym e) (of_new (subst (λ (s : Marks). IsMarkOf s.first mark) (subst (λ (j : ℕ). signature_at more j ≡ m) (sym e) new) own))
-    | inr ne ↦
-        let inside : r < length signatures = omega (arith, n, size, at, ne) in
-        keeps.each mark r (h.keeps.each mark r (i.every r mark inside (subst (λ (s : Marks). IsMarkOf s.first mark) (old r inside) own)))
-  ]
-    where
-      of_new : IsMarkOf m.first mark → IsIn after mark row
-      of_new (inl e) = keeps.each mark row (subst (λ (k : ℕ). IsIn mid k row) (sym e) h.has)
-      of_new (inr (low, bit)) = let (k, j, e) = l.all mark low bit in subst (λ (k : ℕ). IsIn after k row) e (each k j)
-
-  pub IsIndex-pushed : (mid all' first' second' : Sets) (one other : ℕ) → HasMore all mid 128 row → Keeps mid all' → ((k : ℕ) → k < length list → IsIn all' (get_or list k 0) row) →
-      HasMore first first' one row → IsKey list one → HasMore second second' other row → IsKey list other → IsIndex blocks more all' first' second'
-  IsIndex-pushed mid all' first' second' one other h keeps each f one_is s other_is = record {
+  pub IsIndex-pushed : (all' words' : Sets) (chains' : Chained) (key : ℕ) → HasMore all all' list row → HasMore words words' list (row / 64) → IsLonger chains chains' key row →
+      IsKey list m.second key → IsIndex groups more all' words' chains'
+  IsIndex-pushed all' words' chains' key a w h k = record {
     narrow = i.narrow;
     few = omega (arith, size, room);
-    all_width = keeps.width ∙ h.keeps.width ∙ i.all_width;
-    first_width = f.keeps.width ∙ i.first_width;
-    second_width = s.keeps.width ∙ i.second_width;
-    every = marked mid all' h keeps each;
-    first_key = keyed first first' one i.first_key f one_is;
-    second_key = keyed second second' other i.second_key s other_is;
+    all_width = a.keeps.width ∙ i.all_width;
+    words_width = w.keeps.width ∙ i.words_width;
+    row = marked (λ (r : ℕ). r) all all' a i.row;
+    word = marked (λ (r : ℕ). r / 64) words words' w i.word;
+    chained = record { size = let e = h.longer in let f = i.chained.size in omega (arith, size, e, f); ends = h.ends; keyed = keyed chains' key h k };
   }
+
+pub none_indexed : (groups : ℕ) (signatures : List Marks) (all words : Sets) (chains : Chained) → groups ≤ 16 → signatures ≡ [] → all.width ≡ 64 * groups → words.width ≡ groups → length chains.next ≡ 1 →
+    get_or chains.next 0 0 ≡ 0 → IsIndex groups signatures all words chains
+none_indexed groups signatures all words chains narrow none wide few one ends = record {
+  narrow = narrow;
+  few = omega (arith, size);
+  all_width = wide;
+  words_width = few;
+  row = λ r mark l own. absurd (omega (arith, l, size));
+  word = λ r mark l own. absurd (omega (arith, l, size));
+  chained = record { size = omega (arith, one, size); ends = ends; keyed = λ r l. absurd (omega (arith, l, size)) };
+}
+  where
+    size : length signatures ≡ 0
+    size = ap (λ (ms : List Marks). length ms) none

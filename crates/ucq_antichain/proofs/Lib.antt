@@ -1,5 +1,6 @@
 pub mod Pruned
-pub mod Bits
+pub mod Words
+pub mod Links
 pub mod Listed
 pub mod Indexed
 pub mod Walked

@@ -5,6 +5,7 @@ use Rattle.std.proofs.Math.ListN.{set}
 use Rattle.std.proofs.lemmas.Bool.{cases_eq}
 use Rattle.std.proofs.lemmas.List.{get_or-set_same, get_or-set_other, get_or-take, length-take-le}
 use Rattle.ucq_antichain.specs.Sets.{IsListOf}
+use Rattle.ucq_antichain.proofs.Words.{cases_below}
 
 -- the first so many of the list are the marks below one that are bits
 pub record AreBelow (list : List ℕ) (count marks mark : ℕ) : Type 0 where
@@ -15,13 +16,13 @@ pub record AreBelow (list : List ℕ) (count marks mark : ℕ) : Type 0 where
 pub none_below : (list : List ℕ) (marks : ℕ) → AreBelow list 0 marks 0
 none_below list marks = record { few = omega arith; only = λ k l. absurd (omega arith); all = λ m l. absurd (omega arith) }
 
-pub below_kept : (list : List ℕ) (count marks mark : ℕ) → AreBelow list count marks mark → bit_at marks mark ≢ 1 → AreBelow list count marks (mark + 1)
-below_kept list count marks mark b unset = record {
-  few = let l = b.few in omega arith;
+pub below_skipped : (list : List ℕ) (count marks from to : ℕ) → AreBelow list count marks from → from ≤ to → ((i : ℕ) → from ≤ i → i < to → bit_at marks i ≡ 0) → AreBelow list count marks to
+below_skipped list count marks from to b further unset = record {
+  few = let l = b.few in omega (arith, l, further);
   only = b.only;
-  all = λ m l bit. elim (cases_eq m mark) [
-    | inl e ↦ absurd (unset (subst (λ (i : ℕ). bit_at marks i ≡ 1) e bit))
-    | inr ne ↦ b.all m (omega (arith, l, ne)) bit
+  all = λ m l bit. elim (cases_below m from) [
+    | inl before ↦ b.all m before bit
+    | inr after ↦ let none = unset m after l in absurd (omega (arith, none, bit))
   ];
 }
 

@@ -1,8 +1,6 @@
 -- Rows are pruned one after another, and then a new one is added.
-use Rattle.std.proofs.Common.{◌≡◌, ◌≢◌, ℕ, ◌+◌, ◌-◌, ◌<◌, ◌≤◌, ◌⊎◌, inl, inr, refl, sym, ap, ◌∙◌, List, [], ◌∷◌, ◌++◌, Bool, true, false, cond, length, get_or, arith, subst}
-use Rattle.std.specs.Int.{bit_at}
-use Rattle.std.proofs.lemmas.Bool.{cases_eq, cases_order}
-use Rattle.std.proofs.lemmas.Nat.Bits.{bit_at-zero}
+use Rattle.std.proofs.Common.{◌≡◌, ℕ, ◌+◌, ◌<◌, ◌≤◌, ◌⊎◌, inl, inr, refl, sym, ap, ◌∙◌, List, [], ◌∷◌, ◌++◌, Bool, true, false, cond, length, get_or, arith, subst}
+use Rattle.std.proofs.lemmas.Bool.{cases_eq}
 use Rattle.std.proofs.Math.ListN.{set}
 use Rattle.std.proofs.lemmas.List.{get_or_append_left, get_or_at, get_or_default, length-append, get_or-set_same, get_or-set_other, length-set, get_or_past}
 use Rattle.std.proofs.lemmas.List.Sums.{sum_by-append, sum_by-set, count_by-le-length}
@@ -11,7 +9,8 @@ use Rattle.ucq_terms.specs.Homomorphism.{Covers}
 use Rattle.ucq_antichain.specs.declared.Row.{Row}
 use Rattle.ucq_antichain.specs.Rows.{no_row, row_at, query_at, IsAdded, SomeLiveCovers, live_count}
 use Rattle.ucq_antichain.specs.Calls.{MayDie, IsPruned, AddsRow}
-use Rattle.ucq_antichain.specs.Walks.{HasCovered, DiesAt, IsPrunedFrom}
+use Rattle.ucq_antichain.specs.Walks.{NoneCovered, DiesAt, IsPrunedFrom}
+use Rattle.ucq_antichain.proofs.Words.{cases_below}
 
 -- what pruning keeps of a row and changes
 pruned_query : (q : Query) (old : Row) (b : Bool) (now : Row) → MayDie q old b now → now.query ≡ old.query
@@ -32,12 +31,6 @@ may_twice : (q : Query) (old mid now : Row) (b c : Bool) → MayDie q old b mid 
 may_twice q old mid now true true (live, covers, same) (alive, also, is) = absurd (let e : mid.live ≡ false = ap (λ (r : Row). r.live) same in let f : mid.live ≡ true = alive in cc)
 may_twice q old mid now true false (live, covers, same) (is, unless) = (true, (live, covers, is ∙ same))
 may_twice q old mid now false c (same, unless) may = (c, subst (λ (r : Row). MayDie q r c now) same may)
-
-pub cases_below : (n m : ℕ) → (n < m) ⊎ (m ≤ n)
-cases_below n m = elim (cases_eq n m) [
-  | inl e ↦ inr (omega (arith, e))
-  | inr ne ↦ elim (cases_order n m) [ inl e ↦ inr (omega (arith, e)) | inr (inl l) ↦ inl l | inr (inr g) ↦ inr (omega (arith, g)) ]
-]
 
 -- what a row counts for
 abbrev one : Row → ℕ
@@ -75,66 +68,20 @@ dies_nowhere q rows place past = record {
   fewer = omega arith;
 }
 
--- of the 64 rows from one on those are pruned that have no bit among those left
-pub record ArePruned (q : Query) (before now : List Row) (from left pruned : ℕ) : Type 0 where
-  pub count : length now ≡ length before
-  pub done : (bit : ℕ) → bit < 64 → ((b : Bool) × MayDie q (row_at before (from + bit)) b (row_at now (from + bit))) ⊎ ((bit_at left bit ≡ 1) × (row_at now (from + bit) ≡ row_at before (from + bit)))
-  pub outside : (row : ℕ) → (row < from) ⊎ (from + 64 ≤ row) → row_at now row ≡ row_at before row
-  pub fewer : live_count now + pruned ≡ live_count before
+-- no row is looked at where the query covers none
+pub none_die : (q : Query) (rows : List Row) (from to : ℕ) → NoneCovered rows q from to → IsPrunedFrom q rows rows from to 0
+none_die q rows from to h = record { count = refl; between = λ row l m. (false, (refl, λ live covers. h.none row l m live covers)); outside = λ row o. refl; fewer = omega arith }
 
-pub begun : (q : Query) (rows : List Row) (from bits : ℕ) → HasCovered rows q from bits → ArePruned q rows rows from bits 0
-begun q rows from bits h = record {
-  count = refl;
-  done = λ bit l. elim (cases_eq (bit_at bits bit) 1) [
-    | inl e ↦ inr (e, refl)
-    | inr ne ↦ inl (false, (refl, λ live covers. ne (h.each bit l live covers)))
-  ];
-  outside = λ row o. refl;
-  fewer = omega arith;
+-- one row
+pub one_dies : (q : Query) (before after : List Row) (row next : ℕ) (b : Bool) → next ≡ row + 1 → DiesAt q before after row b → IsPrunedFrom q before after row next (cond b 1 0)
+one_dies q before after row next b is d = record {
+  count = d.count;
+  between = λ r l m. let e : row ≡ r = omega (arith, l, m, is) in (b, subst (λ (x : ℕ). MayDie q (row_at before x) b (row_at after x)) e d.here);
+  outside = λ r o. d.others r (λ e. elim o [ inl l ↦ omega (arith, l, e) | inr l ↦ omega (arith, l, e, is) ]);
+  fewer = d.fewer;
 }
 
-module _ (q : Query) (before now after : List Row) (from left rest pruned bit : ℕ) (b : Bool) (h : ArePruned q before now from left pruned)
-    (others : (i : ℕ) → i < 64 → bit_at left i ≡ 1 → (i ≡ bit → ⊥) → bit_at rest i ≡ 1) (d : DiesAt q now after (from + bit) b) where
-  abbrev IsDone : ℕ → Type 0
-  IsDone i = ((c : Bool) × MayDie q (row_at before (from + i)) c (row_at after (from + i))) ⊎ ((bit_at rest i ≡ 1) × (row_at after (from + i) ≡ row_at before (from + i)))
-
-  done_here : bit < 64 → IsDone bit
-  done_here within = elim (h.done bit within) [
-    | inl (c, may) ↦ inl (may_twice q (row_at before (from + bit)) (row_at now (from + bit)) (row_at after (from + bit)) c b may d.here)
-    | inr (set, same) ↦ inl (b, subst (λ (r : Row). MayDie q r b (row_at after (from + bit))) same d.here)
-  ]
-
-  done_there : (i : ℕ) → i < 64 → i ≢ bit → IsDone i
-  done_there i within ne =
-      let same : row_at after (from + i) ≡ row_at now (from + i) = d.others (from + i) (λ e. ne (omega (arith, e))) in
-      elim (h.done i within) [
-        | inl (c, may) ↦ inl (c, subst (MayDie q (row_at before (from + i)) c) (sym same) may)
-        | inr (set, still) ↦ inr (others i within set ne, same ∙ still)
-      ]
-
-  pub pruned_next : bit < 64 → (pruned' : ℕ) → pruned' ≡ pruned + cond b 1 0 → ArePruned q before after from rest pruned'
-  pruned_next within pruned' is = record {
-    count = d.count ∙ h.count;
-    done = λ i l. elim (cases_eq i bit) [ inl e ↦ subst IsDone (sym e) (done_here within) | inr ne ↦ done_there i l ne ];
-    outside = λ row o. d.others row (λ e. elim o [ inl l ↦ omega (arith, l, e) | inr l ↦ omega (arith, l, e, within) ]) ∙ h.outside row o;
-    fewer = let f = d.fewer in let g = h.fewer in omega (arith, f, g, is);
-  }
-
-pub all_done : (q : Query) (before now : List Row) (from left pruned : ℕ) → ArePruned q before now from left pruned → left ≡ 0 → IsPrunedFrom q before now from (from + 64) pruned
-all_done q before now from left pruned h none = record {
-  count = h.count;
-  between = λ row l m.
-      let i : ℕ = row - from in
-      let at : from + i ≡ row = omega (arith, l) in
-      subst (λ (r : ℕ). (b : Bool) × MayDie q (row_at before r) b (row_at now r)) at (elim (h.done i (omega (arith, l, m))) [
-        | inl may ↦ may
-        | inr (set, same) ↦ absurd (let z : bit_at left i ≡ 0 = subst (λ (n : ℕ). bit_at n i ≡ 0) (sym none) (bit_at-zero i) in omega (arith, z, set))
-      ]);
-  outside = h.outside;
-  fewer = h.fewer;
-}
-
--- one word after another
+-- one row or word after another
 pub none_pruned : (q : Query) (rows : List Row) (from : ℕ) → IsPrunedFrom q rows rows from from 0
 none_pruned q rows from = record { count = refl; between = λ row l m. absurd (omega arith); outside = λ row o. refl; fewer = omega arith }
 
@@ -152,6 +99,14 @@ pruned_further q before mid after from place to pruned more low high h d = recor
   ];
   fewer = let f = d.fewer in let g = h.fewer in omega (arith, f, g);
 }
+
+-- some rows, and then none
+pub pruned_on : (q : Query) (before mid after : List Row) (from place middle to pruned more : ℕ) → from ≤ place → place ≤ middle → middle ≤ to → IsPrunedFrom q before mid from place pruned →
+    IsPrunedFrom q mid after place middle more → NoneCovered after q middle to → IsPrunedFrom q before after from to (pruned + more)
+pruned_on q before mid after from place middle to pruned more low high far h d none =
+    let sum : pruned + more + 0 ≡ pruned + more = omega arith in
+    subst (IsPrunedFrom q before after from to) sum
+    (pruned_further q before after after from middle to (pruned + more) 0 (omega (arith, low, high)) far (pruned_further q before mid after from place middle pruned more low high h d) (none_die q after middle to none))
 
 -- so many rows can't die as there are
 pub few_pruned : (before now : List Row) (pruned n : ℕ) → live_count now + pruned ≡ live_count before → length before ≤ n → pruned ≤ n

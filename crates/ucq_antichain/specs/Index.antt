@@ -1,13 +1,15 @@
--- The signatures of rows, and sets by which the rows are found that may cover a query or be covered by it.
-use Rattle.std.specs.Prelude.{◌≡◌, ℕ, ◌*◌, ◌<◌, ◌≤◌, ◌⊎◌, List, length, slice_index_or}
+-- The signatures of rows, and sets and chains by which the rows are found that may cover a query or be covered by it.
+use Rattle.std.specs.Prelude.{◌≡◌, ℕ, ◌+◌, ◌*◌, ◌/◌, ◌<◌, ◌≤◌, ◌⊎◌, List, length, slice_index, slice_index_or}
 use Rattle.std.specs.Int.{bit_at}
 use Rattle.ucq_hom.specs.Signature.{Marks}
 use Rattle.ucq_antichain.specs.Sets.{Sets, IsIn}
+use Rattle.ucq_antichain.specs.Chains.{Chained, IsInChain}
 
--- the signatures of rows, with room for so many blocks of 512
+-- the signatures of rows, with room for so many groups of 4,096, and chains of rows
 pub record Indexed : Type 0 where
-  pub blocks : ℕ
+  pub groups : ℕ
   pub signatures : List Marks
+  pub chains : Chained
 
 -- what a read past the end gives
 abbrev pub no_marks : Marks
@@ -16,23 +18,40 @@ no_marks = record { first = 0; second = 0 }
 abbrev pub signature_at : List Marks → ℕ → Marks
 signature_at signatures row = slice_index_or signatures row no_marks
 
--- 128 is taken to be a mark of every query
+-- the number is a mark
 abbrev pub IsMarkOf : ℕ → ℕ → Type 0
-IsMarkOf marks mark = (mark ≡ 128) ⊎ ((mark < 128) × (bit_at marks mark ≡ 1))
+IsMarkOf marks mark = (mark < 128) × (bit_at marks mark ≡ 1)
 
--- the row is in the set of one of its marks
-pub record HasKey (sets : Sets) (marks row : ℕ) : Type 0 where
+-- the key is the pair of a mark with one of these others
+pub record IsKeyBeside (others first key : ℕ) : Type 0 where
+  pub second : ℕ
+  pub low : second < 128
+  pub bit : bit_at others second ≡ 1
+  pub key_is : key ≡ 128 * first + second
+
+-- 16384 is taken to be a key of every query, and the others are pairs of its marks
+abbrev pub IsKeyOf : Marks → ℕ → Type 0
+IsKeyOf marks key = (key ≡ 16384) ⊎ ((first : ℕ) × (first < 128) × (bit_at marks.first first ≡ 1) × IsKeyBeside marks.second first key)
+
+-- the row is in the chain of one of its keys
+pub record HasKey (chains : Chained) (marks : Marks) (row : ℕ) : Type 0 where
   pub key : ℕ
-  pub own : IsMarkOf marks key
-  pub among : IsIn sets key row
+  pub own : IsKeyOf marks key
+  pub among : IsInChain chains key row
 
--- The sets have room for the rows. Each row is in the sets of all its marks, and by two keys in the set of one of them.
-pub record IsIndex (blocks : ℕ) (signatures : List Marks) (all first second : Sets) : Type 0 where
-  pub narrow : blocks ≤ 128
-  pub few : length signatures ≤ 512 * blocks
-  pub all_width : all.width ≡ 8 * blocks
-  pub first_width : first.width ≡ 8 * blocks
-  pub second_width : second.width ≡ 8 * blocks
-  pub every : (row mark : ℕ) → row < length signatures → IsMarkOf (signature_at signatures row).first mark → IsIn all mark row
-  pub first_key : (row : ℕ) → row < length signatures → HasKey first (signature_at signatures row).first row
-  pub second_key : (row : ℕ) → row < length signatures → HasKey second (signature_at signatures row).first row
+-- there is a link for each row and for the end, and each row is in the chain of one of its keys
+pub record AreChainsOf (chains : Chained) (signatures : List Marks) : Type 0 where
+  pub size : length chains.next ≡ length signatures + 1
+  pub ends : slice_index chains.next 0 ≡ 0
+  pub keyed : (row : ℕ) → row < length signatures → HasKey chains (signature_at signatures row) row
+
+-- The sets have room for the rows. Each row is in the sets of all its marks, its word is in the sets of words of these, and it is
+-- in the chain of one of its keys.
+pub record IsIndex (groups : ℕ) (signatures : List Marks) (all words : Sets) (chains : Chained) : Type 0 where
+  pub narrow : groups ≤ 16
+  pub few : length signatures ≤ 4096 * groups
+  pub all_width : all.width ≡ 64 * groups
+  pub words_width : words.width ≡ groups
+  pub row : (row mark : ℕ) → row < length signatures → IsMarkOf (signature_at signatures row).first mark → IsIn all mark row
+  pub word : (row mark : ℕ) → row < length signatures → IsMarkOf (signature_at signatures row).first mark → IsIn words mark (row / 64)
+  pub chained : AreChainsOf chains signatures

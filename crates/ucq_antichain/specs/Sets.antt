@@ -1,19 +1,15 @@
--- Sets of rows, one for each mark and one more, as the bits of words.
+-- Sets of rows, one for each of 128 marks, as the bits of words.
 use Rattle.std.specs.Prelude.{◌≡◌, ℕ, ◌+◌, ◌*◌, ◌/◌, ◌%◌, ◌<◌, ◌≤◌, List, length, slice_index}
 use Rattle.std.specs.Int.{bit_at}
 
--- each set has so many words, one after another
+-- each set has so many words; those of the same 64 rows stand together, one for each mark
 pub record Sets : Type 0 where
   pub width : ℕ
   pub words : List ℕ
 
 -- the row is in the set of the mark
 abbrev pub IsIn : Sets → ℕ → ℕ → Type 0
-IsIn sets mark row = bit_at (slice_index sets.words (mark * sets.width + row / 64)) (row % 64) ≡ 1
-
--- the row is among those of eight words
-abbrev pub IsAmong : List ℕ → ℕ → Type 0
-IsAmong words row = bit_at (slice_index words (row / 64 % 8)) (row % 64) ≡ 1
+IsIn sets mark row = bit_at (slice_index sets.words (128 * (row / 64) + mark)) (row % 64) ≡ 1
 
 -- a row that was in a set stays there
 pub record Keeps (before after : Sets) : Type 0 where

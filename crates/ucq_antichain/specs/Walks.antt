@@ -1,35 +1,36 @@
 -- The index of an antichain, and what walks over its rows find and do.
-use Rattle.std.specs.Prelude.{◌≡◌, ◌≢◌, ℕ, ◌+◌, ◌<◌, ◌≤◌, ◌⊎◌, Bool, cond, List, length, Option, Some, None}
+use Rattle.std.specs.Prelude.{◌≡◌, ◌≢◌, ℕ, ◌+◌, ◌*◌, ◌<◌, ◌≤◌, ◌⊎◌, Bool, cond, List, length, slice_index}
 use Rattle.std.specs.Int.{bit_at}
 use Rattle.ucq_terms.specs.Syntax.{Query}
 use Rattle.ucq_terms.specs.Homomorphism.{Covers}
 use Rattle.ucq_hom.specs.Signature.{signature_of}
 use Rattle.ucq_antichain.specs.declared.Row.{Row}
 use Rattle.ucq_antichain.specs.Rows.{row_at, query_at, IsLiveAt, live_count}
+use Rattle.ucq_antichain.specs.Chains.{Chained, Reaches}
 use Rattle.ucq_antichain.specs.Index.{Indexed, signature_at}
 use Rattle.ucq_antichain.specs.Calls.{MayDie}
 
--- the index has the signature of each row's query, and words for all rows
+-- the index has the signature of each row's query
 pub record IsIndexOf (index : Indexed) (rows : List Row) : Type 0 where
   pub size : length index.signatures ≡ length rows
   pub each : (row : ℕ) → row < length rows → signature_at index.signatures row ≡ signature_of (query_at rows row)
 
--- the bits have each live row of the 64 from a row on that covers the query
-pub record HasCovers (rows : List Row) (q : Query) (from bits : ℕ) : Type 0 where
-  pub each : (bit : ℕ) → bit < 64 → IsLiveAt rows (from + bit) → Covers (query_at rows (from + bit)) q → bit_at bits bit ≡ 1
+-- it is the number of rows, or a live row that covers the query
+pub record IsBest (rows : List Row) (q : Query) (best : ℕ) : Type 0 where
+  pub within : best ≤ length rows
+  pub covers : best < length rows → IsLiveAt rows best × Covers (query_at rows best) q
 
--- the same of the rows that the query covers
-pub record HasCovered (rows : List Row) (q : Query) (from bits : ℕ) : Type 0 where
-  pub each : (bit : ℕ) → bit < 64 → IsLiveAt rows (from + bit) → Covers q (query_at rows (from + bit)) → bit_at bits bit ≡ 1
+-- no live row from the link on that covers the query is before this one
+pub record NoneEarlier (rows : List Row) (q : Query) (chains : Chained) (link best : ℕ) : Type 0 where
+  pub none : (row : ℕ) → Reaches chains.next link (row + 1) → IsLiveAt rows row → Covers (query_at rows row) q → best ≤ row
 
--- no live row between these two covers the query
-pub record NoneBetween (rows : List Row) (q : Query) (from to : ℕ) : Type 0 where
-  pub none : (row : ℕ) → from ≤ row → row < to → IsLiveAt rows row → ¬ Covers (query_at rows row) q
+-- nor is one in the chains of a mark beside these
+pub record NoneBeside (rows : List Row) (q : Query) (chains : Chained) (others first best : ℕ) : Type 0 where
+  pub each : (second : ℕ) → second < 128 → bit_at others second ≡ 1 → NoneEarlier rows q chains (slice_index chains.heads (128 * first + second)) best
 
--- it is the first live row between these two that covers the query, or there is none
-abbrev pub IsCoverFrom : List Row → Query → ℕ → ℕ → Option ℕ → Type 0
-IsCoverFrom rows q from to None = NoneBetween rows q from to
-IsCoverFrom rows q from to (Some row) = IsLiveAt rows row × Covers (query_at rows row) q × (from ≤ row) × NoneBetween rows q from row
+-- the query covers no live row between these two
+pub record NoneCovered (rows : List Row) (q : Query) (from to : ℕ) : Type 0 where
+  pub none : (row : ℕ) → from ≤ row → row < to → IsLiveAt rows row → ¬ Covers q (query_at rows row)
 
 -- the row dies if it is live and the query covers it, and the others are as they were
 pub record DiesAt (q : Query) (before after : List Row) (row : ℕ) (dies : Bool) : Type 0 where

@@ -1,74 +1,77 @@
-//! Sets of rows by marks, by which the rows are found that may cover a query or be covered by it.
+//! Sets of rows by marks and chains of rows by pairs of marks, by which the rows are found that may cover a query or be covered
+//! by it.
 ghost use Rattle.std.specs.Prelude.{◌≡◌, ◌+◌, ◌*◌, ◌/◌, ◌%◌, ◌<◌, ◌≤◌, ◌++◌, ◌∷◌, [], ◌⊎◌, ℕ, length, slice_index, IfOk, vec_len};
 ghost use Rattle.std.specs.Vec.{vec_capacity};
 ghost use Rattle.std.specs.Int.{bit_at};
 ghost use Rattle.ucq_hom.specs.Signature.{IsPartOf};
-ghost use Rattle.ucq_antichain.specs.Sets.{IsAmong};
-ghost use Rattle.ucq_antichain.specs.Index.{signature_at, IsMarkOf};
+ghost use Rattle.ucq_antichain.specs.Index.{signature_at, IsKeyOf, AreChainsOf, IsKeyBeside};
 
+use crate::bits::next_bit;
+use crate::chains::{Chains, NO_PAIR, pair};
 use crate::marked::Marked;
 use crate::push_within;
-use crate::row_sets::{EVERY, RowSets, meet};
+use crate::row_sets::RowSets;
 use std::alloc::Global;
 use std::marker::Model;
 use ucq_hom::Signature;
 use ucq_terms::NoMemory;
 
-/// The signatures of rows, in order, and the rows by their marks. Contracts see it as the signatures and how many blocks of 512
-/// rows there is room for.
+/// The signatures of rows, in order, and the rows by their marks. Contracts see it as the signatures, how many groups of
+/// 4,096 rows there is room for, and the chains.
 #[derive(Drop)]
 pub struct Index {
-    blocks: usize,
+    groups: usize,
     signatures: Vec<Signature>,
     // each row by all its marks
     all: RowSets,
-    // each row by one of its marks, and by another one
-    first: RowSets,
-    second: RowSets,
-    // how many rows have each mark
-    counts: Vec<u32>,
+    // the words of these sets that have a row, by its marks
+    words: RowSets,
+    // each row by one pair of its marks
+    chains: Chains,
+    // how many rows have each pair
+    counts: Vec<u16>,
 }
 
 impl Model for Index {
-    ghost use Rattle.std.specs.Prelude.{◌*◌, ◌≤◌};
+    ghost use Rattle.std.specs.Prelude.{◌*◌, ◌≤◌, ◌<◌};
     ghost use Rattle.std.specs.Vec.{vec_capacity};
     ghost use Rattle.ucq_antichain.specs.Index.{Indexed, IsIndex};
 
     ghost Value = { Indexed };
 
-    ghost view = { λ i. record { blocks = i.blocks; signatures = i.signatures.items } };
+    ghost view = { λ i. record { groups = i.groups; signatures = i.signatures.items; chains = i.chains } };
 
-    ghost invariant = { λ i. IsIndex i.blocks i.signatures.items i.all i.first i.second × (512 * i.blocks ≤ vec_capacity i.signatures) };
+    ghost invariant = { λ i. IsIndex i.groups i.signatures.items i.all i.words i.chains × (4096 * i.groups ≤ vec_capacity i.signatures) × (4096 * i.groups < i.chains.room) };
 }
 
 impl Index {
-    /// No row, and room for so many blocks of 512.
-    pub fn new(alloc: Global, blocks: usize) -> Result<Index, NoMemory>
-        requires { blocks ≤ 128 }
-        ensures { IfOk result (λ i. i ≡ record { blocks = blocks; signatures = [] }) }
+    /// No row, and room for so many groups of 4,096.
+    pub fn new(alloc: Global, groups: usize) -> Result<Index, NoMemory>
+        requires { groups ≤ 16 }
+        ensures { IfOk result (λ i. (i.groups ≡ groups) × (i.signatures ≡ [])) }
     {
-        let signatures = Vec::with_capacity(alloc, 512 * blocks)?;
-        let all = RowSets::new(alloc, 8 * blocks)?;
-        let first = RowSets::new(alloc, 8 * blocks)?;
-        let second = RowSets::new(alloc, 8 * blocks)?;
-        let counts = vec![in alloc; 0; EVERY as usize]?;
+        let signatures = Vec::with_capacity(alloc, 4096 * groups)?;
+        let all = RowSets::new(alloc, 64 * groups)?;
+        let words = RowSets::new(alloc, groups)?;
+        let chains = Chains::new(alloc, 4096 * groups)?;
+        let counts = vec![in alloc; 0; NO_PAIR as usize]?;
         Ok(Index {
-            blocks,
+            groups,
             signatures,
             all,
-            first,
-            second,
+            words,
+            chains,
             counts,
         })
     }
 
-    /// How many blocks of 512 the rows take.
-    pub fn blocks(&self) -> usize
-        ensures enough { length self.now.signatures ≤ 512 * result }
-        ensures within { result ≤ self.now.blocks }
-        ensures few { result ≤ 128 }
+    /// How many groups of 4,096 the rows take.
+    pub fn groups(&self) -> usize
+        ensures enough { length self.now.signatures ≤ 4096 * result }
+        ensures within { result ≤ self.now.groups }
+        ensures few { result ≤ 16 }
     {
-        self.signatures.len().div_ceil(512)
+        self.signatures.len().div_ceil(4096)
     }
 
     /// The signature of a row.
@@ -81,83 +84,96 @@ impl Index {
 
     /// Adds a row.
     pub fn push(&mut self, marked: &Marked)
-        requires { length self.old.signatures < 512 * self.old.blocks }
-        ensures { self.new ≡ record { blocks = self.old.blocks; signatures = self.old.signatures ++ marked.now ∷ [] } }
+        requires { length self.old.signatures < 4096 * self.old.groups }
+        ensures groups { self.new.groups ≡ self.old.groups }
+        ensures signatures { self.new.signatures ≡ self.old.signatures ++ marked.now ∷ [] }
     {
         let row = self.signatures.len() as u32;
         let marks = marked.marks();
-        let first = rarest(self.counts.as_slice(), marks, EVERY);
-        let second = rarest_beside(&self.all, 8 * self.blocks(), marks, first);
-        self.all.insert(EVERY, row);
+        let others = marked.signature().others();
+        let key = rarest(self.counts.as_slice(), marks, others);
         self.all.insert_all(marks, row);
-        self.first.insert(first, row);
-        self.second.insert(second, row);
-        count(&mut self.counts, marks);
+        self.words.insert_all(marks, row / 64);
+        self.chains.push(key);
+        count(&mut self.counts, marks, others);
         push_within(&mut self.signatures, *marked.signature());
     }
 
-    /// Of the 512 rows of a block those that may cover a query, as bits.
-    pub fn may_cover(&self, marked: &Marked, block: usize) -> [u64; 8]
-        requires { block < self.now.blocks }
-        ensures { (row : ℕ) → row < length self.now.signatures → row / 512 ≡ block → IsPartOf (signature_at self.now.signatures row).first marked.now.first → IsAmong result row }
+    /// The chains, in which a row is under a key that each query has which it covers.
+    pub fn chains(&self) -> &Chains
+        ensures chains { result.now ≡ self.now.chains }
+        ensures keyed { AreChainsOf self.now.chains self.now.signatures }
     {
-        let marks = marked.marks();
-        let mut rows = self.first.union(marks, block);
-        let others = self.second.union(marks, block);
-        meet(&mut rows, &others);
-        rows
+        &self.chains
     }
 
-    /// Of the 512 rows of a block those that a query may cover, as bits.
-    pub fn may_be_covered(&self, marked: &Marked, block: usize) -> [u64; 8]
-        requires { block < self.now.blocks }
-        ensures { (row : ℕ) → row < length self.now.signatures → row / 512 ≡ block → IsPartOf marked.now.first (signature_at self.now.signatures row).first → IsAmong result row }
+    /// Of the 64 words of a group those with a row that a query may cover, as bits.
+    pub fn words(&self, marked: &Marked, group: usize) -> u64
+        requires { group < self.now.groups }
+        ensures { (row : ℕ) → row < length self.now.signatures → row / 4096 ≡ group → IsPartOf marked.now.first (signature_at self.now.signatures row).first → bit_at result (row / 64 % 64) ≡ 1 }
     {
-        self.all.common(marked.marks(), block)
+        self.words.common(marked.marks(), group)
+    }
+
+    /// Of the 64 rows of a word those that a query may cover, as bits.
+    pub fn rows(&self, marked: &Marked, word: usize) -> u64
+        requires { word < 64 * self.now.groups }
+        ensures { (row : ℕ) → row < length self.now.signatures → row / 64 ≡ word → IsPartOf marked.now.first (signature_at self.now.signatures row).first → bit_at result (row % 64) ≡ 1 }
+    {
+        self.all.common(marked.marks(), word)
     }
 }
 
-fn count_of(counts: &[u32], mark: u32) -> u32 {
-    counts.get(mark as usize).copied().unwrap_or(u32::MAX)
+// How many rows have the pair.
+fn count_of(counts: &[u16], key: u32) -> u16 {
+    counts.get(key as usize).copied().unwrap_or(u16::MAX)
 }
 
-// One of the marks that the fewest rows have, other than this one. It is `EVERY` if there is none.
-fn rarest(counts: &[u32], marks: &[u32], but: u32) -> u32
+// Of a key and the pairs of a mark with these others the one that the fewest rows have.
+fn rarest_beside(counts: &[u16], first: u32, others: u128, key: u32) -> u32
+    requires { first < 128 }
+    ensures { (result ≡ key) ⊎ IsKeyBeside others first result }
+{
+    let mut best = key;
+    let mut second = next_bit(others, 0);
+    while second < 128 {
+        let beside = pair(first, second);
+        if count_of(counts, beside) < count_of(counts, best) {
+            best = beside;
+        }
+        second = next_bit(others, second + 1);
+    }
+    best
+}
+
+// The pair of marks that the fewest rows have. It is `NO_PAIR` if there is none.
+fn rarest(counts: &[u16], marks: &[u32], others: u128) -> u32
     requires { (k : ℕ) → k < length marks.now → slice_index marks.now k < 128 }
-    ensures { (result ≡ 128) ⊎ ((k : ℕ) × (k < length marks.now) × (slice_index marks.now k ≡ result)) }
+    ensures { (result ≡ 16384) ⊎ ((k : ℕ) × (k < length marks.now) × IsKeyBeside others (slice_index marks.now k) result) }
 {
-    let mut best = EVERY;
+    let mut best = NO_PAIR;
     for mark in marks {
-        if *mark != but && count_of(counts, *mark) < count_of(counts, best) {
-            best = *mark;
-        }
+        best = rarest_beside(counts, *mark, others, best);
     }
     best
 }
 
-// One of the marks other than this one that the fewest of the newest rows have beside it. It is `EVERY` if there is none.
-fn rarest_beside(all: &RowSets, words: usize, marks: &[u32], first: u32) -> u32
-    requires words { words ≤ all.now.width }
-    requires first { first ≤ 128 }
-    requires marks { (k : ℕ) → k < length marks.now → slice_index marks.now k < 128 }
-    ensures { (result ≡ 128) ⊎ ((k : ℕ) × (k < length marks.now) × (slice_index marks.now k ≡ result)) }
+fn count_beside(counts: &mut Vec<u16>, first: u32, others: u128)
+    requires { first < 128 }
 {
-    let mut best = EVERY;
-    let mut least = u32::MAX;
-    for mark in marks {
-        let count = all.count_common(first, *mark, words);
-        if *mark != first && count < least {
-            best = *mark;
-            least = count;
-        }
-    }
-    best
-}
-
-fn count(counts: &mut Vec<u32>, marks: &[u32]) {
-    for mark in marks {
-        if let Some(count) = counts.get_mut(*mark as usize) {
+    let mut second = next_bit(others, 0);
+    while second < 128 {
+        if let Some(count) = counts.get_mut(pair(first, second) as usize) {
             *count = count.saturating_add(1);
         }
+        second = next_bit(others, second + 1);
+    }
+}
+
+fn count(counts: &mut Vec<u16>, marks: &[u32], others: u128)
+    requires { (k : ℕ) → k < length marks.now → slice_index marks.now k < 128 }
+{
+    for mark in marks {
+        count_beside(counts, *mark, others);
     }
 }

@@ -8,16 +8,19 @@ ghost use Rattle.ucq_terms.specs.Query.{IsStored};
 ghost use Rattle.ucq_hom.specs.Space.{IsClear};
 ghost use Rattle.ucq_hom.specs.Signature.{signature_of};
 ghost use Rattle.ucq_antichain.specs.Rows.{row_at, query_at, live_queries, IsLiveAt};
-ghost use Rattle.ucq_antichain.specs.Walks.{IsIndexOf, HasCovers, HasCovered, IsCoverFrom, DiesAt, IsPrunedFrom};
+ghost use Rattle.ucq_antichain.specs.Walks.{IsIndexOf, IsBest, NoneEarlier, NoneBeside, DiesAt, IsPrunedFrom};
 ghost use Rattle.ucq_antichain.specs.Calls.{IsCoverIn, MayDie, IsPruned, DoesAdd};
 
+mod bits;
+mod chains;
 mod index;
 mod marked;
 mod row_sets;
 
+use bits::next_bit;
+use chains::{NO_PAIR, pair};
 use index::Index;
 use marked::Marked;
-use row_sets::{lowest, without};
 use std::alloc::Global;
 use std::marker::Model;
 use ucq_hom::{HomSpace, Signature, covers};
@@ -51,7 +54,7 @@ impl Model for Antichain {
 
     ghost view = { λ a. record { budget = a.budget; rows = a.rows.items } };
 
-    ghost invariant = { λ a. (a.budget ≤ 65536) × (length a.rows.items ≤ a.budget) × (a.budget ≤ vec_capacity a.rows) × (a.room.items ≡ []) × (a.budget ≤ vec_capacity a.room) × IsIndexOf a.index a.rows.items × (a.budget ≤ 512 * a.index.blocks) };
+    ghost invariant = { λ a. (a.budget ≤ 65536) × (length a.rows.items ≤ a.budget) × (a.budget ≤ vec_capacity a.rows) × (a.room.items ≡ []) × (a.budget ≤ vec_capacity a.room) × IsIndexOf a.index a.rows.items × (a.budget ≤ 4096 * a.index.groups) };
 }
 
 /// What became of a query that was to be added.
@@ -73,7 +76,7 @@ impl Antichain {
         ensures { IfOk result (λ a. a ≡ record { budget = budget; rows = [] }) }
     {
         let rows = Vec::with_capacity(alloc, budget as usize)?;
-        let index = Index::new(alloc, (budget as usize).div_ceil(512))?;
+        let index = Index::new(alloc, (budget as usize).div_ceil(4096))?;
         let room = Vec::with_capacity(alloc, budget as usize)?;
         Ok(Antichain {
             budget,
@@ -198,60 +201,94 @@ fn is_cover(
     found
 }
 
-// The first live row that covers the query of the 64 from a row on, of which only these bits may.
-fn cover_among(
+// The row if it is before the best, live and covers the query, else the best.
+fn better(
     space: &mut HomSpace,
     rows: &[Row],
     index: &Index,
-    among: u64,
+    row: u32,
+    query: &Query,
+    marked: &Marked,
+    best: u32,
+) -> u32
+    requires index { IsIndexOf index.now rows.now }
+    requires marked { marked.now ≡ signature_of query.now }
+    requires clear { IsClear space.old }
+    requires best { IsBest rows.now query.now best }
+    ensures best { IsBest rows.now query.now result }
+    ensures earlier { result ≤ best }
+    ensures here { IsLiveAt rows.now row → Covers (query_at rows.now row) query.now → result ≤ row }
+    ensures clear { IsClear space.new }
+{
+    if row >= best {
+        return best;
+    }
+    if is_cover(space, rows, index, row, query, marked) {
+        return row;
+    }
+    best
+}
+
+// The first live row of a chain from a link on that covers the query, if it is before the best, else the best.
+fn best_in_chain(
+    space: &mut HomSpace,
+    rows: &[Row],
+    index: &Index,
     from: u32,
     query: &Query,
     marked: &Marked,
-) -> Option<u32>
+    best: u32,
+) -> u32
     requires index { IsIndexOf index.now rows.now }
     requires marked { marked.now ≡ signature_of query.now }
     requires clear { IsClear space.old }
-    requires few { from ≤ 65536 }
-    requires among { HasCovers rows.now query.now from among }
-    ensures cover { IsCoverFrom rows.now query.now from (from + 64) result }
+    requires from { from < length index.now.chains.next }
+    requires best { IsBest rows.now query.now best }
+    ensures best { IsBest rows.now query.now result }
+    ensures earlier { result ≤ best }
+    ensures none { NoneEarlier rows.now query.now index.now.chains from result }
     ensures clear { IsClear space.new }
 {
-    let mut left = among;
-    while left > 0 {
-        let bit = lowest(left);
-        if is_cover(space, rows, index, from + bit, query, marked) {
-            return Some(from + bit);
-        }
-        left = without(left, bit);
+    let chains = index.chains();
+    let mut found = best;
+    let mut link = from;
+    while link > 0 {
+        found = better(space, rows, index, link - 1, query, marked, found);
+        link = chains.after(link);
     }
-    None
+    found
 }
 
-// The first live row of a block that covers the query.
-fn cover_in(
+// The same of the chains of a mark beside another mark of the query.
+fn best_beside(
     space: &mut HomSpace,
     rows: &[Row],
     index: &Index,
-    block: usize,
+    first: u32,
     query: &Query,
     marked: &Marked,
-) -> Option<u32>
+    best: u32,
+) -> u32
     requires index { IsIndexOf index.now rows.now }
     requires marked { marked.now ≡ signature_of query.now }
     requires clear { IsClear space.old }
-    requires few { block < 128 }
-    requires block { block < index.now.blocks }
-    ensures cover { IsCoverFrom rows.now query.now (512 * block) (512 * block + 512) result }
+    requires first { first < 128 }
+    requires best { IsBest rows.now query.now best }
+    ensures best { IsBest rows.now query.now result }
+    ensures earlier { result ≤ best }
+    ensures none { NoneBeside rows.now query.now index.now.chains marked.now.second first result }
     ensures clear { IsClear space.new }
 {
-    let among = index.may_cover(marked, block);
-    for word in 0..8usize {
-        let from = 512 * block as u32 + 64 * word as u32;
-        if let Some(row) = cover_among(space, rows, index, among[word], from, query, marked) {
-            return Some(row);
-        }
+    let chains = index.chains();
+    let filled = chains.filled(first, marked.signature().others());
+    let mut found = best;
+    let mut second = next_bit(filled, 0);
+    while second < 128 {
+        let from = chains.head(pair(first, second));
+        found = best_in_chain(space, rows, index, from, query, marked, found);
+        second = next_bit(filled, second + 1);
     }
-    None
+    found
 }
 
 // The first live row that covers the query.
@@ -264,16 +301,18 @@ fn first_cover(
 ) -> Option<u32>
     requires index { IsIndexOf index.now rows.now }
     requires marked { marked.now ≡ signature_of query.now }
+    requires few { length rows.now ≤ 65536 }
     ensures cover { IsCoverIn rows.now query.now result }
     ensures clear { IsClear space.new }
 {
     space.clear();
-    for block in 0..index.blocks() {
-        if let Some(row) = cover_in(space, rows, index, block, query, marked) {
-            return Some(row);
-        }
+    let none = rows.len() as u32;
+    let from = index.chains().head(NO_PAIR);
+    let mut best = best_in_chain(space, rows, index, from, query, marked, none);
+    for first in marked.marks() {
+        best = best_beside(space, rows, index, *first, query, marked, best);
     }
-    None
+    if best < none { Some(best) } else { None }
 }
 
 // Makes the row dead if it is live and the query covers it, and says whether it does. Its signature is looked at first.
@@ -323,44 +362,42 @@ fn dies_at(
     dies(space, kept, index.signature(row), query, marked)
 }
 
-// Makes the live rows dead that the query covers of the 64 from a row on, of which it may cover only these bits, and counts
-// them.
-fn prune_among(
+// Makes the live rows of a word of 64 dead that the query covers, and counts them.
+fn prune_word(
     space: &mut HomSpace,
     rows: &mut [Row],
     index: &Index,
-    among: u64,
-    from: u32,
+    word: u32,
     query: &Query,
     marked: &Marked,
 ) -> u32
     requires index { IsIndexOf index.now rows.old }
     requires marked { marked.now ≡ signature_of query.now }
-    requires clear { IsClear space.old }
     requires few { length rows.old ≤ 65536 }
-    requires from { from ≤ 65536 }
-    requires among { HasCovered rows.old query.now from among }
-    ensures pruned { IsPrunedFrom query.now rows.old rows.new from (from + 64) result }
+    requires clear { IsClear space.old }
+    requires low { word < 1024 }
+    requires word { word < 64 * index.now.groups }
+    ensures pruned { IsPrunedFrom query.now rows.old rows.new (64 * word) (64 * word + 64) result }
     ensures clear { IsClear space.new }
 {
+    let among = index.rows(marked, word as usize) as u128;
     let mut pruned = 0;
-    let mut left = among;
-    while left > 0 {
-        let bit = lowest(left);
-        if dies_at(space, rows, index, from + bit, query, marked) {
+    let mut bit = next_bit(among, 0);
+    while bit < 64 {
+        if dies_at(space, rows, index, 64 * word + bit, query, marked) {
             pruned += 1;
         }
-        left = without(left, bit);
+        bit = next_bit(among, bit + 1);
     }
     pruned
 }
 
-// Makes the live rows of a block dead that the query covers, and counts them.
-fn prune_in(
+// The same of a group of 64 words.
+fn prune_group(
     space: &mut HomSpace,
     rows: &mut [Row],
     index: &Index,
-    block: usize,
+    group: usize,
     query: &Query,
     marked: &Marked,
 ) -> u32
@@ -368,16 +405,17 @@ fn prune_in(
     requires marked { marked.now ≡ signature_of query.now }
     requires few { length rows.old ≤ 65536 }
     requires clear { IsClear space.old }
-    requires low { block < 128 }
-    requires block { block < index.now.blocks }
-    ensures pruned { IsPrunedFrom query.now rows.old rows.new (512 * block) (512 * block + 512) result }
+    requires low { group < 16 }
+    requires group { group < index.now.groups }
+    ensures pruned { IsPrunedFrom query.now rows.old rows.new (4096 * group) (4096 * group + 4096) result }
     ensures clear { IsClear space.new }
 {
-    let among = index.may_be_covered(marked, block);
+    let among = index.words(marked, group) as u128;
     let mut pruned = 0;
-    for word in 0..8usize {
-        let from = 512 * block as u32 + 64 * word as u32;
-        pruned += prune_among(space, rows, index, among[word], from, query, marked);
+    let mut bit = next_bit(among, 0);
+    while bit < 64 {
+        pruned += prune_word(space, rows, index, 64 * group as u32 + bit, query, marked);
+        bit = next_bit(among, bit + 1);
     }
     pruned
 }
@@ -398,8 +436,8 @@ fn prune(
     ensures clear { IsClear space.new }
 {
     let mut pruned = 0;
-    for block in 0..index.blocks() {
-        pruned += prune_in(space, rows, index, block, query, marked);
+    for group in 0..index.groups() {
+        pruned += prune_group(space, rows, index, group, query, marked);
     }
     pruned
 }

@@ -3,6 +3,7 @@ ghost use Rattle.std.specs.Prelude.{◌≡◌, ◌≤◌, take};
 ghost use Rattle.ucq_hom.specs.Signature.{signature_of};
 ghost use Rattle.ucq_antichain.specs.Sets.{IsListOf};
 
+use crate::bits::next_bit;
 use std::marker::Model;
 use ucq_hom::Signature;
 use ucq_terms::Query;
@@ -63,11 +64,11 @@ fn list_marks(marks: u128, list: &mut [u32; 128]) -> usize
     ensures list { IsListOf (take result list.new) marks }
 {
     let mut count = 0;
-    for mark in 0..128u32 {
-        if marks >> mark & 1 == 1 {
-            list[count] = mark;
-            count += 1;
-        }
+    let mut mark = next_bit(marks, 0);
+    while mark < 128 {
+        list[count] = mark;
+        count += 1;
+        mark = next_bit(marks, mark + 1);
     }
     count
 }

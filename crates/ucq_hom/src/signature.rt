@@ -43,6 +43,13 @@ impl Signature {
         self.first
     }
 
+    /// The second set of marks, likewise.
+    pub fn others(&self) -> u128
+        ensures { result ≡ self.now.second }
+    {
+        self.second
+    }
+
     /// Whether a query with this signature may cover one with the other. Most often it doesn't.
     pub fn may_cover(&self, other: &Signature) -> bool
         ensures { result ≡ false → (a b : QueryValue) → self.now ≡ signature_of a → other.now ≡ signature_of b → ¬ Covers a b }

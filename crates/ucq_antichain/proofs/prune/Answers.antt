@@ -6,23 +6,23 @@ use Rattle.ucq_antichain.proofs.prune.Goals as goal
 
 pub returns-clause-pruned : goal.returns-clause-pruned
 returns-clause-pruned c =
-    all_pruned c.args.query.now c.args.rows.now c.loop-block.rows (512 * c.loop-block.block) c.loop-block.pruned c.loop-block.invariant.pruned
-    (omega (arith, c.blocks-block-end.ensures.enough, c.requires.index.size, c.loop-block-test.false))
+    all_pruned c.args.query.now c.args.rows.now c.loop-group.rows (4096 * c.loop-group.group) c.loop-group.pruned c.loop-group.invariant.pruned
+    (omega (arith, c.groups-group-end.ensures.enough, c.requires.index.size, c.loop-group-test.false))
 
-pub loop-block-preserved : goal.loop-block-preserved
-loop-block-preserved c =
-    let inv = c.loop-block.invariant in
+pub loop-group-preserved : goal.loop-group-preserved
+loop-group-preserved c =
+    let inv = c.loop-group.invariant in
     let q = c.args.query.now in
-    let from : ℕ = 512 * c.loop-block.block in
-    let after = c.prune_in-pruned.new.rows in
-    let n = c.prune_in-pruned.result in
-    let e : from + 512 ≡ 512 * (c.loop-block.block + 1) = omega arith in
+    let from : ℕ = 4096 * c.loop-group.group in
+    let after = c.prune_group-pruned.new.rows in
+    let n = c.prune_group-pruned.result in
+    let e : from + 4096 ≡ 4096 * (c.loop-group.group + 1) = omega arith in
     record {
-      clear = c.prune_in-pruned.ensures.clear;
+      clear = c.prune_group-pruned.ensures.clear;
       index =
-          IsIndexOf-pruned c.args.index.now c.loop-block.rows after c.prune_in-pruned.ensures.pruned.count
-          (λ row l. queries_stay q c.loop-block.rows after from (from + 512) n row c.prune_in-pruned.ensures.pruned) inv.index;
+          IsIndexOf-pruned c.args.index.now c.loop-group.rows after c.prune_group-pruned.ensures.pruned.count
+          (λ row l. queries_stay q c.loop-group.rows after from (from + 4096) n row c.prune_group-pruned.ensures.pruned) inv.index;
       pruned =
-          subst (λ (to : ℕ). IsPrunedFrom q c.args.rows.now after 0 to (c.loop-block.pruned + n)) e
-          (pruned_further q c.args.rows.now c.loop-block.rows after 0 from (from + 512) c.loop-block.pruned n (omega arith) (omega arith) inv.pruned c.prune_in-pruned.ensures.pruned);
+          subst (λ (to : ℕ). IsPrunedFrom q c.args.rows.now after 0 to (c.loop-group.pruned + n)) e
+          (pruned_further q c.args.rows.now c.loop-group.rows after 0 from (from + 4096) c.loop-group.pruned n (omega arith) (omega arith) inv.pruned c.prune_group-pruned.ensures.pruned);
     }

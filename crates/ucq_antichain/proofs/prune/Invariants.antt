@@ -3,9 +3,9 @@ use Rattle.ucq_hom.specs.Space.{IsClear}
 use Rattle.ucq_antichain.specs.Walks.{IsIndexOf, IsPrunedFrom}
 use Rattle.ucq_antichain.proofs.prune.Given as goal
 
-abbrev pub invariant-loop-block : goal.invariant-loop-block
-invariant-loop-block l = record {
+abbrev pub invariant-loop-group : goal.invariant-loop-group
+invariant-loop-group l = record {
   clear : IsClear l.space;
   index : IsIndexOf l.index l.rows;
-  pruned : IsPrunedFrom l.query l.initial.rows l.rows 0 (512 * l.block) l.pruned;
+  pruned : IsPrunedFrom l.query l.initial.rows l.rows 0 (4096 * l.group) l.pruned;
 }

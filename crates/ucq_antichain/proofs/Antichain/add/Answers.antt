@@ -6,7 +6,6 @@ use Rattle.ucq_antichain.specs.Rows.{Kept, SomeLiveCovers}
 use Rattle.ucq_antichain.specs.Calls.{IsPruned, AddsRow}
 use Rattle.ucq_antichain.proofs.Pruned.{with_last, adds_row}
 use Rattle.ucq_antichain.specs.Walks.{IsIndexOf}
-use Rattle.ucq_antichain.specs.Index.{Indexed}
 use Rattle.ucq_antichain.proofs.Walked.{IsIndexOf-pruned, IsIndexOf-added}
 use Rattle.ucq_antichain.proofs.Antichain.add.Goals as goal
 
@@ -47,12 +46,12 @@ invariant_of-self c =
     let index : IsIndexOf f.index rows = IsIndexOf-pruned f.index f.rows.items rows p.count p.query old in
     let indexed : IsIndexOf c.push.new.self c.push_within.new.items.items =
     subst (λ (rs : List Row). IsIndexOf c.push.new.self rs) (sym last)
-    (subst (λ (i : Indexed). IsIndexOf i (with_last rows c.args.query)) (sym c.push.ensures) (IsIndexOf-added f.index rows c.args.query c.of-marked.result index c.of-marked.ensures)) in (
+    (IsIndexOf-added f.index rows c.args.query c.of-marked.result index c.of-marked.ensures c.push.new.self c.push.ensures.signatures) in (
       budget,
       omega (arith, count-last-rows c.push_within.new.items.items rows c.args.query last, p.count, size, c.as_mut_slice.ensures.len, c.if-len-self.false, c.len.ensures, within),
       omega (arith, rows_room, c.push_within.ensures.capacity),
       empty,
       room,
       indexed,
-      omega (arith, wide, ap (λ (i : Indexed). i.blocks) c.push.ensures),
+      omega (arith, wide, c.push.ensures.groups),
     )

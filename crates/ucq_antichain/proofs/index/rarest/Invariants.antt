@@ -1,5 +1,6 @@
 use Rattle.std.proofs.Common.{◌≡◌, ◌<◌, ◌⊎◌, ℕ, length, get_or}
+use Rattle.ucq_antichain.specs.Index.{IsKeyBeside}
 use Rattle.ucq_antichain.proofs.index.rarest.Given as goal
 
 abbrev pub invariant-loop-mark : goal.invariant-loop-mark
-invariant-loop-mark l = (l.best ≡ 128) ⊎ ((k : ℕ) × (k < length l.marks) × (get_or l.marks k 0 ≡ l.best))
+invariant-loop-mark l = (l.best ≡ 16384) ⊎ ((k : ℕ) × (k < length l.marks) × IsKeyBeside l.others (get_or l.marks k 0) l.best)

@@ -1,5 +1,14 @@
-use Rattle.std.proofs.Common.{◌≡◌, ◌<◌, ◌⊎◌, ℕ, length, get_or}
+use Rattle.std.proofs.Common.{◌≡◌, ◌≤◌, ◌<◌, ◌-◌, ◌⊎◌}
+use Rattle.std.specs.Int.{bit_at}
+use Rattle.ucq_antichain.specs.Index.{IsKeyBeside}
 use Rattle.ucq_antichain.proofs.index.rarest_beside.Given as goal
 
-abbrev pub invariant-loop-mark : goal.invariant-loop-mark
-invariant-loop-mark l = (l.best ≡ 128) ⊎ ((k : ℕ) × (k < length l.marks) × (get_or l.marks k 0 ≡ l.best))
+abbrev pub invariant-loop-second : goal.invariant-loop-second
+invariant-loop-second l = record {
+  best : (l.best ≡ l.key) ⊎ IsKeyBeside l.others l.first l.best;
+  low : l.second ≤ 128;
+  bit : l.second < 128 → bit_at l.others l.second ≡ 1;
+}
+
+abbrev pub decreases-loop-second : goal.decreases-loop-second
+decreases-loop-second l = 128 - l.second
