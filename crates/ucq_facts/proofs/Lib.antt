@@ -2,3 +2,4 @@ pub mod Matching
 mod Places
 mod Pushed
 mod Indexed
+mod Inserted

@@ -1,10 +1,10 @@
 -- Keys of facts, and the lists of keys after a push.
-use Rattle.std.proofs.Common.{◌≡◌, ℕ, ◌+◌, ◌<◌, ◌≤◌, Bool, true, false, cond, ◌&&◌, List, [], ◌∷◌, ◌++◌, length, slice_get, Some, refl, sym, ap, ◌∙◌, subst, ⊎_elim, arith}
+use Rattle.std.proofs.Common.{◌≡◌, ℕ, ◌+◌, ◌-◌, ◌<◌, ◌≤◌, Bool, true, false, cond, ◌&&◌, List, [], ◌∷◌, ◌++◌, length, take, length-append, slice_get, Some, refl, sym, ap, ◌∙◌, subst, ⊎_elim, true≢false, arith}
 use Rattle.std.specs.Bool.{Decides}
 use Rattle.std.specs.Prelude.{nat_eq}
 use Rattle.std.specs.Cmp.{first_so, second_so, unsigned_Decides}
 use Rattle.std.proofs.lemmas.Bool.{cases_order}
-use Rattle.std.proofs.lemmas.Option.{slice_get_within}
+use Rattle.std.proofs.lemmas.List.{take_at}
 use Rattle.ucq_terms.specs.declared.Term.{Term}
 use Rattle.ucq_terms.specs.declared.Term.TheVariants.{Constant, Variable}
 use Rattle.ucq_terms.specs.contracts.TermPartialEq.TheImpl as term_block
@@ -14,8 +14,8 @@ use Rattle.ucq_terms.specs.Syntax.{Atom}
 use Rattle.ucq_facts.specs.declared.postings.Postings.{Postings}
 use Rattle.ucq_facts.specs.declared.keys.Predicate.{Predicate}
 use Rattle.ucq_facts.specs.declared.keys.Position.{Position}
-use Rattle.ucq_facts.specs.Postings.{list_at, HasRoom, KeepsLists, IsPushed}
-use Rattle.ucq_facts.specs.Index.{predicate_eq, position_eq, IsAt, HasRoomFrom, IsPushedBefore}
+use Rattle.ucq_facts.specs.Postings.{list_at, KeepsLists, IsPushed, IsPopped}
+use Rattle.ucq_facts.specs.Index.{predicate_eq, position_eq, IsAt, IsPushedBefore}
 
 predicate_path : (j k : Predicate) → j.name ≡ k.name → j.arity ≡ k.arity → j ≡ k
 predicate_path j k e f = λ i. record { name = e i; arity = f i }
@@ -75,7 +75,7 @@ not_true : (b : Bool) → (b ≡ true → ⊥) → b ≡ false
 not_true true h = absurd (h refl)
 not_true false h = refl
 
--- After a push the key has one more place, and each other key has its list and its room.
+-- After a push the key has one more place, and each other key has its list.
 module _ {K : Type 0} (eq : K → K → Bool) (decides : (j k : K) → Decides (eq j k) (j ≡ k)) (before after : Postings K) (key : K) (number : ℕ)
     (pushed : IsPushed eq before key number after) where
   pub list-pushed : list_at eq after key ≡ list_at eq before key ++ number ∷ []
@@ -87,35 +87,6 @@ module _ {K : Type 0} (eq : K → K → Bool) (decides : (j k : K) → Decides (
   list-other other n =
       let e : eq key other ≡ false = not_true (eq key other) (λ t. n ((decides key other).0 t)) in
       pushed.lists other ∙ ap (λ (b : Bool). cond b (list_at eq before other ++ number ∷ []) (list_at eq before other)) e
-
-  pub room-other : (other : K) → ¬ (key ≡ other) → HasRoom eq before other → HasRoom eq after other
-  room-other other n = pushed.room other (not_true (eq key other) (λ t. n ((decides key other).0 t)))
-
--- What making room for one key does to the keys of a fact.
-pub KeepsLists-refl : {K : Type 0} (eq : K → K → Bool) (p : Postings K) → KeepsLists eq p p
-KeepsLists-refl eq p = record { lists = λ key. refl; room = λ key r. r }
-
-pub KeepsLists-trans : {K : Type 0} (eq : K → K → Bool) (p q r : Postings K) → KeepsLists eq p q → KeepsLists eq q r → KeepsLists eq p r
-KeepsLists-trans eq p q r f g = record { lists = λ key. g.lists key ∙ f.lists key; room = λ key h. g.room key (f.room key h) }
-
--- The keys of the fact at places before one have room.
-pub record HasRoomBefore (p : Postings Position) (a : Atom) (place : ℕ) : Type 0 where
-  pub room : (key : Position) → IsAt key a → key.place < place → HasRoom position_eq p key
-
-pub HasRoomBefore-next : (p q : Postings Position) (a : Atom) (place : ℕ) (key : Position) → IsAt key a → key.place ≡ place → HasRoomBefore p a place →
-    KeepsLists position_eq p q → HasRoom position_eq q key → HasRoomBefore q a (place + 1)
-HasRoomBefore-next p q a place key at is before keeps room = record {
-  room =
-      λ other m l. ⊎_elim (λ (e : other.place ≡ place). subst (HasRoom position_eq q) (same_key key other a at m (is ∙ sym e)) room)
-      (λ n. keeps.room other (before.room other m (⊎_elim (λ k. k) (λ k. absurd (omega arith)) n))) (cases_order other.place place);
-}
-
-pub HasRoomFrom-before : (p : Postings Position) (a : Atom) (place : ℕ) → length a.terms ≤ place → HasRoomBefore p a place → HasRoomFrom p a 0
-HasRoomFrom-before p a place l before = record {
-  room =
-      λ key m _. let inside : key.place < length a.terms = slice_get_within a.terms key.place key.term m.bound_is in
-      before.room key m (omega arith);
-}
 
 -- One more key of the fact takes the number.
 module _ (first p q : Postings Position) (a : Atom) (place number : ℕ) (key : Position) (at : IsAt key a) (is : key.place ≡ place)
@@ -138,12 +109,49 @@ module _ (first p q : Postings Position) (a : Atom) (place number : ℕ) (key : 
         list-other position_eq Decides-position_eq p q key number pushed other apart ∙ before.kept other (λ n. let far = m n in omega (arith, far));
   }
 
-  pub HasRoomFrom-next : HasRoomFrom p a place → HasRoomFrom q a (place + 1)
-  HasRoomFrom-next room = record {
-    room =
-        λ other m l. let apart : ¬ (key ≡ other) = λ e. let s = ap (λ (x : Position). x.place) e in omega (arith, l, s, is) in
-        room-other position_eq Decides-position_eq p q key number pushed other apart (room.room other m (omega (arith, l)));
-  }
-
 pub IsPushedBefore-none : (p : Postings Position) (a : Atom) (number : ℕ) → IsPushedBefore p a 0 number p
 IsPushedBefore-none p a number = record { done = λ key m l. absurd (omega (arith, l)); kept = λ key m. refl }
+
+pub IsPushedBefore-keeps : (first p q : Postings Position) (a : Atom) (place number : ℕ) → IsPushedBefore first a place number p → KeepsLists position_eq p q → IsPushedBefore first a place number q
+IsPushedBefore-keeps first p q a place number before keeps = record {
+  done = λ key m l. keeps.lists key ∙ before.done key m l;
+  kept = λ key m. keeps.lists key ∙ before.kept key m;
+}
+
+-- where no key of the fact took the number, all lists are kept
+pub IsPushedBefore-kept : (p q : Postings Position) (a : Atom) (number : ℕ) → IsPushedBefore p a 0 number q → KeepsLists position_eq p q
+IsPushedBefore-kept p q a number before = record { lists = λ key. before.kept key (λ _. omega arith) }
+
+front : (xs : List ℕ) (n : ℕ) → take (length (xs ++ n ∷ []) - 1) (xs ++ n ∷ []) ≡ xs
+front xs n = let size : length (xs ++ n ∷ []) - 1 ≡ length xs = omega (arith, length-append xs (n ∷ [])) in take_at xs (n ∷ []) (length (xs ++ n ∷ []) - 1) (sym size)
+
+-- The key that took the number last gives it back.
+module _ (first p q : Postings Position) (a : Atom) (place number : ℕ) (key : Position) (at : IsAt key a) (is : key.place ≡ place)
+    (before : IsPushedBefore first a (place + 1) number p) (popped : IsPopped position_eq p key q) where
+  list-popped : list_at position_eq q key ≡ list_at position_eq first key
+  list-popped =
+      let e : position_eq key key ≡ true = (Decides-position_eq key key).1 refl in
+      let old : list_at position_eq p key ≡ list_at position_eq first key ++ number ∷ [] = before.done key at (omega (arith, is)) in
+      popped.lists key ∙ (ap (λ (b : Bool). cond b (take (length (list_at position_eq p key) - 1) (list_at position_eq p key)) (list_at position_eq p key)) e
+      ∙ (ap (λ (xs : List ℕ). take (length xs - 1) xs) old ∙ front (list_at position_eq first key) number))
+
+  list-left : (other : Position) → ¬ (key ≡ other) → list_at position_eq q other ≡ list_at position_eq p other
+  list-left other n =
+      let e : position_eq key other ≡ false = not_true (position_eq key other) (λ t. n ((Decides-position_eq key other).0 t)) in
+      popped.lists other ∙ ap (λ (b : Bool). cond b (take (length (list_at position_eq p other) - 1) (list_at position_eq p other)) (list_at position_eq p other)) e
+
+  pub IsPushedBefore-back : IsPushedBefore first a place number q
+  IsPushedBefore-back = record {
+    done =
+        λ other m l. let apart : ¬ (key ≡ other) = λ e. let s = ap (λ (x : Position). x.place) e in omega (arith, l, s, is) in
+        list-left other apart ∙ before.done other m (omega (arith, l));
+    kept = λ other m. go other m (position_eq key other) refl;
+  }
+    where
+      go : (other : Position) → (IsAt other a → place ≤ other.place) → (b : Bool) → position_eq key other ≡ b → list_at position_eq q other ≡ list_at position_eq first other
+      go other m true e = subst (λ (k : Position). list_at position_eq q k ≡ list_at position_eq first k) ((Decides-position_eq key other).0 e) list-popped
+      go other m false e =
+          let apart : ¬ (key ≡ other) = λ s. true≢false (sym ((Decides-position_eq key other).1 s) ∙ e) in
+          list-left other apart ∙ before.kept other (λ i. let far = m i in
+          ⊎_elim (λ (s : other.place ≡ place). absurd (apart (same_key key other a at i (is ∙ sym s))))
+          (λ n. ⊎_elim (λ (k : other.place < place). absurd (omega (arith, far))) (λ (k : place < other.place). omega arith) n) (cases_order other.place place))

@@ -1,9 +1,9 @@
 -- What an index of facts holds.
-use Rattle.std.specs.Prelude.{◌≡◌, ℕ, ◌+◌, ◌<◌, ◌≤◌, Bool, List, [], ◌∷◌, ◌++◌, if◌then◌else◌, slice_get, Some, None}
+use Rattle.std.specs.Prelude.{◌≡◌, ℕ, ◌+◌, ◌<◌, ◌≤◌, Bool, List, [], ◌∷◌, ◌++◌, length, if◌then◌else◌, slice_get, Some, None}
 use Rattle.std.specs.List.{filter_map}
 use Rattle.ucq_terms.specs.Syntax.{Atom}
 use Rattle.ucq_facts.specs.Facts.{IsMatch, is_match}
-use Rattle.ucq_facts.specs.Postings.{list_at, HasRoom}
+use Rattle.ucq_facts.specs.Postings.{list_at}
 use Rattle.ucq_facts.specs.declared.postings.Postings.{Postings}
 use Rattle.ucq_facts.specs.declared.keys.Predicate.{Predicate}
 use Rattle.ucq_facts.specs.declared.keys.Position.{Position}
@@ -16,6 +16,10 @@ predicate_eq = (predicate_block.ghosts).eq
 
 abbrev pub position_eq : Position → Position → Bool
 position_eq = (position_block.ghosts).eq
+
+-- the predicate of a fact
+abbrev pub predicate_of : Atom → Predicate
+predicate_of a = record { name = a.name; arity = length a.terms }
 
 -- the places, counted from a number, of the facts that pass the test
 abbrev pub places_from : (Atom → Bool) → ℕ → List Atom → List ℕ
@@ -41,10 +45,6 @@ atoms_at facts places = filter_map (slice_get facts) places
 -- the fact has the term of the key at its place
 abbrev pub IsAt : Position → Atom → Type 0
 IsAt key a = IsMatch key.name key.arity (Some (key.place, key.term)) a
-
--- there is room in the list of each term of the fact from a place on
-pub record HasRoomFrom (p : Postings Position) (a : Atom) (place : ℕ) : Type 0 where
-  pub room : (key : Position) → IsAt key a → place ≤ key.place → HasRoom position_eq p key
 
 -- the number stands last in the lists of the fact's terms before a place, and all other lists are as before
 pub record IsPushedBefore (before : Postings Position) (a : Atom) (place number : ℕ) (after : Postings Position) : Type 0 where

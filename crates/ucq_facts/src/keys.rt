@@ -1,6 +1,6 @@
 //! What facts are found by.
 ghost use Rattle.std.specs.Prelude.{◌≡◌, ◌<◌, length};
-ghost use Rattle.ucq_facts.specs.Index.{IsAt};
+ghost use Rattle.ucq_facts.specs.Index.{IsAt, predicate_of};
 
 use ucq_terms::{Atom, Term};
 
@@ -14,7 +14,7 @@ pub(crate) struct Predicate {
 impl Predicate {
     /// The atom's predicate.
     pub(crate) fn of(atom: &Atom) -> Predicate
-        ensures { result ≡ record { name = atom.now.name; arity = length atom.now.terms } }
+        ensures { result ≡ predicate_of atom.now }
     {
         Predicate {
             name: atom.name(),

@@ -4,13 +4,13 @@
 //! with a term at a place where one is given, by a look-up of a hash and one step a fact that it gives.
 #![tactic(auto)]
 
-ghost use Rattle.std.specs.Prelude.{◌≡◌, ◌<◌, ◌≤◌, ◌^◌, false, [], ◌∷◌, ◌++◌, length, IfOk, OnOk, OnErr};
-ghost use Rattle.indexmap.specs.IndexSet.{contains, spare};
-ghost use Rattle.ucq_terms.specs.Numbering.{atom_eq};
+ghost use Rattle.std.specs.Prelude.{◌≡◌, ◌<◌, ◌≤◌, ◌^◌, ℕ, [], length, IfOk, OnOk, OnErr};
 ghost use Rattle.ucq_terms.specs.Syntax.{HasEachOnce};
 ghost use Rattle.ucq_facts.specs.Facts.{DoesAdd, is_match, matching};
-ghost use Rattle.ucq_facts.specs.Postings.{KeepsLists};
-ghost use Rattle.ucq_facts.specs.Index.{position_eq, places_from, HasRoomFrom, IsPushedBefore};
+ghost use Rattle.ucq_facts.specs.declared.postings.Postings.{Postings as PostingsValue};
+ghost use Rattle.ucq_facts.specs.declared.keys.Position.{Position as PositionValue};
+ghost use Rattle.ucq_facts.specs.Postings.{KeepsLists, IsPushed};
+ghost use Rattle.ucq_facts.specs.Index.{predicate_eq, position_eq, predicate_of, places_from, IsPushedBefore};
 
 mod keys;
 mod matches;
@@ -64,18 +64,18 @@ impl Facts {
         ensures does { IfOk result (λ added. DoesAdd self.old atom added self.new) }
         ensures err { OnErr result (self.new ≡ self.old) }
     {
-        if self.atoms.contains(&atom) {
+        let number = self.atoms.len() as u32;
+        if !self.atoms.insert(atom)? {
             return Ok(false);
         }
-        let place = self.atoms.len() as u32;
-        let predicate = Predicate::of(&atom);
-        self.by_predicate.make_room(predicate)?;
-        make_room_for_terms(&mut self.by_term, &atom)?;
-        self.atoms.reserve(1)?;
-        self.by_predicate.push(&predicate, place);
-        push_terms(&mut self.by_term, &atom, place);
-        insert_within(&mut self.atoms, atom);
-        Ok(true)
+        let atom = self.atoms.get_index(number as usize).unwrap();
+        match push(&mut self.by_predicate, &mut self.by_term, atom, number) {
+            Ok(()) => Ok(true),
+            Err(NoMemory) => {
+                let _ = self.atoms.pop();
+                Err(NoMemory)
+            }
+        }
     }
 
     /// How many facts are held.
@@ -112,32 +112,54 @@ impl Facts {
     }
 }
 
-// Makes room for one more place in the list of each of the atom's terms. All lists stay as they are, whatever the result.
-fn make_room_for_terms(by_term: &mut Postings<Position>, atom: &Atom) -> Result<(), NoMemory>
-    ensures lists { KeepsLists position_eq by_term.old by_term.new }
-    ensures room { OnOk result (HasRoomFrom by_term.new atom.now 0) }
+// Puts the number last in the list of the atom's predicate, and in those of its terms. After want of memory all lists are
+// as before.
+fn push(
+    by_predicate: &mut Postings<Predicate>,
+    by_term: &mut Postings<Position>,
+    atom: &Atom,
+    number: u32,
+) -> Result<(), NoMemory>
+    ensures predicate { OnOk result (IsPushed predicate_eq by_predicate.old (predicate_of atom.now) number by_predicate.new) }
+    ensures terms { OnOk result (IsPushedBefore by_term.old atom.now (length atom.now.terms) number by_term.new) }
+    ensures predicates_kept { OnErr result (KeepsLists predicate_eq by_predicate.old by_predicate.new) }
+    ensures terms_kept { OnErr result (KeepsLists position_eq by_term.old by_term.new) }
+{
+    push_terms(by_term, atom, number)?;
+    match by_predicate.push(Predicate::of(atom), number) {
+        Ok(()) => Ok(()),
+        Err(NoMemory) => {
+            pop_terms(by_term, atom, atom.terms().len() as u32);
+            Err(NoMemory)
+        }
+    }
+}
+
+// Puts the number last in the list of each of the atom's terms. After want of memory all lists are as before.
+fn push_terms(by_term: &mut Postings<Position>, atom: &Atom, number: u32) -> Result<(), NoMemory>
+    ensures pushed { OnOk result (IsPushedBefore by_term.old atom.now (length atom.now.terms) number by_term.new) }
+    ensures err { OnErr result (KeepsLists position_eq by_term.old by_term.new) }
 {
     for place in 0..atom.terms().len() as u32 {
-        by_term.make_room(Position::of(atom, place))?;
+        match by_term.push(Position::of(atom, place), number) {
+            Ok(()) => {}
+            Err(NoMemory) => {
+                pop_terms(by_term, atom, place);
+                return Err(NoMemory);
+            }
+        }
     }
     Ok(())
 }
 
-// Puts the number last in the list of each of the atom's terms, which have room for it.
-fn push_terms(by_term: &mut Postings<Position>, atom: &Atom, number: u32)
-    requires { HasRoomFrom by_term.old atom.now 0 }
-    ensures { IsPushedBefore by_term.old atom.now (length atom.now.terms) number by_term.new }
+// Takes what was put last out of the lists of the atom's terms before a place.
+fn pop_terms(by_term: &mut Postings<Position>, atom: &Atom, count: u32)
+    requires { count ≤ length atom.now.terms }
+    ensures { (first : PostingsValue PositionValue) (number : ℕ) → IsPushedBefore first atom.now count number by_term.old → KeepsLists position_eq first by_term.new }
 {
-    for place in 0..atom.terms().len() as u32 {
-        by_term.push(&Position::of(atom, place), number);
+    let mut place = count;
+    while place > 0 {
+        place -= 1;
+        by_term.pop(&Position::of(atom, place));
     }
-}
-
-// Adds an atom that isn't held, for which there is room.
-fn insert_within(atoms: &mut IndexSet<Atom>, atom: Atom)
-    requires room { 0 < spare atoms.old }
-    requires new { contains atom_eq atoms.old atom ≡ false }
-    ensures { atoms.new.keys ≡ atoms.old.keys ++ atom ∷ [] }
-{
-    let _ = atoms.insert(atom);
 }

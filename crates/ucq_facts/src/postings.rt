@@ -1,6 +1,6 @@
 //! Lists of places, found by a key.
-ghost use Rattle.std.specs.Prelude.{◌≡◌, OnOk};
-ghost use Rattle.ucq_facts.specs.Postings.{list_at, AreEmpty, KeepsLists, HasRoom, IsPushed};
+ghost use Rattle.std.specs.Prelude.{◌≡◌, OnOk, OnErr};
+ghost use Rattle.ucq_facts.specs.Postings.{list_at, AreEmpty, KeepsLists, IsPushed, IsPopped};
 
 use indexmap::IndexMap;
 use smallvec::SmallVec;
@@ -34,23 +34,22 @@ impl<K: Eq + Hash + Drop> Postings<K> {
         }
     }
 
-    /// Makes room for one more place in the key's list. All lists stay as they are, whatever the result.
-    pub(crate) fn make_room(&mut self, key: K) -> Result<(), NoMemory>
-        ensures lists { KeepsLists K.eq self.old self.new }
-        ensures room { OnOk result (HasRoom K.eq self.new key) }
+    /// Puts the place last in the key's list. After want of memory all lists are as before.
+    pub(crate) fn push(&mut self, key: K, place: u32) -> Result<(), NoMemory>
+        ensures pushed { OnOk result (IsPushed K.eq self.old key place self.new) }
+        ensures err { OnErr result (KeepsLists K.eq self.old self.new) }
     {
         let none = SmallVec::new(*self.lists.allocator());
-        self.lists.entry(key)?.or_insert(none).reserve(1)?;
+        self.lists.entry(key)?.or_insert(none).push(place)?;
         Ok(())
     }
 
-    /// Puts the place last in the key's list, which has room for it.
-    pub(crate) fn push(&mut self, key: &K, place: u32)
-        requires { HasRoom K.eq self.old key.now }
-        ensures { IsPushed K.eq self.old key.now place self.new }
+    /// Takes the last place out of the key's list.
+    pub(crate) fn pop(&mut self, key: &K)
+        ensures { IsPopped K.eq self.old key.now self.new }
     {
         if let Some(list) = self.lists.get_mut(key) {
-            let _ = list.push(place);
+            let _ = list.pop();
         }
     }
 }

@@ -84,6 +84,12 @@ complete_more text ts ss place count form le r e =
       reads = reads_more (words text ts) ss (statement_view text form) (words_from text ts place) (words_from text ts (place + count)) r done;
     }
 
+-- the words of the statement, and those after it
+pub words_parts : (text : List ℕ) (ts : List Token) (place count : ℕ) (form : StatementForm) → IsEnding text (drop place ts) (Complete form count) → words_from text ts place ≡ spelling (statement_view text form) ++ words_from text ts (place + count)
+words_parts text ts place count form e =
+    let done : outcome begin (words_from text ts place) ≡ complete (statement_view text form) (words_from text ts (place + count)) = e.1 ∙ ap (complete (statement_view text form)) (words_later text ts place count) in
+    (complete_is (words_from text ts place) (statement_view text form) (words_from text ts (place + count)) done).0
+
 pub bad_here : (text : List ℕ) (ts : List Token) (ss : List Statement) (place count : ℕ) → place ≤ length ts → Reads (words text ts) ss (words_from text ts place) → IsEnding text (drop place ts) (Bad count) → IsBadStatement (words text ts) (length ss) (place + count)
 bad_here text ts ss place count le r (lt, w, rest, split, done) =
     let b = bad_is (words text ts) ss (words_from text ts place) w rest r done in

@@ -1,5 +1,5 @@
 -- What the reader answers.
-use Rattle.std.specs.Prelude.{◌≡◌, ℕ, ◌+◌, ◌≤◌, List, [], ◌++◌, map, length, sum_by, Option, Some, None, Ok, Err}
+use Rattle.std.specs.Prelude.{◌≡◌, ℕ, ◌+◌, ◌≤◌, List, [], ◌∷◌, ◌++◌, map, length, sum_by, Option, Some, None, Ok, Err}
 use Rattle.std.specs.declared.vec.Vec.{Vec}
 use Rattle.std.specs.declared.alloc.Global.{Global}
 use Rattle.ucq_terms.specs.Syntax.{Query}
@@ -7,7 +7,10 @@ use Rattle.ucq_reader.specs.declared.input.Input.{Input}
 use Rattle.ucq_reader.specs.declared.ReadFault.{ReadFault}
 use Rattle.ucq_reader.specs.declared.ReadFault.TheVariants.{Memory}
 use Rattle.ucq_reader.specs.Statement.{Statement, spelling}
-use Rattle.ucq_reader.specs.Meaning.{Meant, Placed, FileRead, parsed, placed_from, file_fault, meant}
+use Rattle.ucq_reader.specs.declared.names.Declaration.{Declaration}
+use Rattle.ucq_reader.specs.Names.{declare}
+use Rattle.ucq_reader.specs.View.{declared_view}
+use Rattle.ucq_reader.specs.Meaning.{Meant, Placed, FileRead, statement_fault, parsed, placed_from, file_fault, meant}
 use Rattle.ucq_reader.specs.Input.{InputValue, IsRead, IsNumbered, IsRefused}
 use Rattle.ucq_reader.specs.Gathered.{GatheredValue, IsGathered}
 
@@ -26,6 +29,19 @@ IsTaken more old new = (all : List Placed) → IsGathered all old → IsGathered
 pub record IsGrown (old new : GatheredValue) (count : ℕ) : Type 0 where
   pub names : length new.names ≤ length old.names + count
   pub unknowns : new.unknowns ≤ old.unknowns + count
+
+-- The statement has no refusal of its own and has been taken, with so many tokens, and these are the prefix lines up to it.
+pub record IsAdmitted (text : List ℕ) (p : Placed) (count : ℕ) (before after : List Declaration) (old new : GatheredValue) : Type 0 where
+  pub clear : statement_fault p ≡ None
+  pub taken : IsTaken (p ∷ []) old new
+  pub grown : IsGrown old new count
+  pub declared : declared_view text after ≡ declare (declared_view text before) p.statement
+
+-- an earlier refusal stays; where there is none, the statement is admitted, or it has a refusal of its own
+abbrev pub IsJudged : Option ReadFault → Placed → Type 0 → Option ReadFault → Type 0
+IsJudged (Some fault) p admitted result = result ≡ Some fault
+IsJudged None p admitted (Some fault) = OrMemory (λ (g : ReadFault). statement_fault p ≡ Some g) fault
+IsJudged None p admitted None = admitted
 
 -- how many words they have
 abbrev pub word_count : List Placed → ℕ

@@ -5,8 +5,8 @@ ghost use Rattle.ucq_reader.specs.Names.{declare as spec_declare};
 ghost use Rattle.ucq_reader.specs.Gathered.{IsGathered};
 ghost use Rattle.ucq_reader.specs.Input.{IsInput};
 ghost use Rattle.ucq_reader.specs.Meaning.{Placed, statement_fault as spec_statement_fault};
-ghost use Rattle.ucq_reader.specs.Outcome.{OrMemory, IsTaken, IsGrown, IsFileTaken, IsFileFault, IsFault, IsWhole, byte_count, input_value, texts};
-ghost use Rattle.ucq_reader.specs.Parse.{IsParsed};
+ghost use Rattle.ucq_reader.specs.Outcome.{OrMemory, IsTaken, IsGrown, IsAdmitted, IsJudged, IsFileTaken, IsFileFault, IsFault, IsWhole, byte_count, input_value, texts};
+ghost use Rattle.ucq_lexer.specs.Tokens.{Spells};
 ghost use Rattle.ucq_reader.specs.Placing.{IsSpelled, placed_view};
 ghost use Rattle.ucq_reader.specs.View.{declared_view, statement_view};
 
@@ -14,7 +14,7 @@ use crate::faults::{Place, statement_fault};
 use crate::gathered::Gathered;
 use crate::input::Input;
 use crate::names::Declaration;
-use crate::parse::{Parsed, parse};
+use crate::parse::{next_statement, tokens_of};
 use crate::syntax::StatementForm;
 use crate::{ReadFault, Whole};
 use std::alloc::{AllocError, Global};
@@ -64,43 +64,105 @@ fn take_statement(
     gathered.add(alloc, text, declarations, place.file, place.number, form)
 }
 
-/// Takes the statements of a file in order, up to the first that is refused.
+/// The same, and notes the statement if it is a prefix line.
+fn admit(
+    alloc: Global,
+    gathered: &mut Gathered,
+    text: &[u8],
+    declarations: &mut Vec<Declaration>,
+    place: Place,
+    tokens: &[Token],
+    form: &StatementForm,
+) -> Result<(), ReadFault>
+    requires text { length text.now ≤ 2 ^ 26 }
+    requires tokens { length tokens.now ≤ 2 ^ 26 }
+    requires spelled { IsSpelled text.now tokens.now form.now }
+    requires names { length gathered.old.names + length tokens.now < 2 ^ 32 - 1 }
+    requires unknowns { gathered.old.unknowns + length tokens.now < 2 ^ 32 - 1 }
+    ensures admitted { OnOk result (IsAdmitted text.now (placed_view place.file place.number text.now declarations.old.items tokens.now form.now) (length tokens.now) declarations.old.items declarations.new.items gathered.old gathered.new) }
+    ensures fault { IfErr result (λ f. OrMemory (λ (g : ReadFault). spec_statement_fault (placed_view place.file place.number text.now declarations.old.items tokens.now form.now) ≡ Some g) f) }
+{
+    take_statement(
+        alloc,
+        gathered,
+        text,
+        declarations.as_slice(),
+        place,
+        tokens,
+        form,
+    )?;
+    declare(declarations, form)?;
+    Ok(())
+}
+
+/// The refusal of a file after its next statement, which is taken where no statement before it was refused.
+fn judge(
+    alloc: Global,
+    gathered: &mut Gathered,
+    text: &[u8],
+    declarations: &mut Vec<Declaration>,
+    place: Place,
+    tokens: &[Token],
+    form: &StatementForm,
+    refusal: Option<ReadFault>,
+) -> Option<ReadFault>
+    requires text { length text.now ≤ 2 ^ 26 }
+    requires tokens { length tokens.now ≤ 2 ^ 26 }
+    requires spelled { IsSpelled text.now tokens.now form.now }
+    requires names { refusal ≡ None → length gathered.old.names + length tokens.now < 2 ^ 32 - 1 }
+    requires unknowns { refusal ≡ None → gathered.old.unknowns + length tokens.now < 2 ^ 32 - 1 }
+    ensures { IsJudged refusal (placed_view place.file place.number text.now declarations.old.items tokens.now form.now) (IsAdmitted text.now (placed_view place.file place.number text.now declarations.old.items tokens.now form.now) (length tokens.now) declarations.old.items declarations.new.items gathered.old gathered.new) result }
+{
+    match refusal {
+        Some(fault) => Some(fault),
+        None => match admit(alloc, gathered, text, declarations, place, tokens, form) {
+            Ok(()) => None,
+            Err(fault) => Some(fault),
+        },
+    }
+}
+
+/// Takes the statements that these tokens of a file spell, each as it is read, up to the first that is refused. Those
+/// after it are read, too: that a file is no list of statements comes before any refusal of a statement.
 fn take_statements(
     alloc: Global,
     gathered: &mut Gathered,
     file: u32,
     text: &[u8],
-    parsed: &Parsed,
+    tokens: &[Token],
 ) -> Result<(), ReadFault>
     requires text { length text.now ≤ 2 ^ 26 }
-    requires parsed { IsParsed text.now parsed.now }
+    requires spells { Spells text.now tokens.now }
     requires names { length gathered.old.names + length text.now < 2 ^ 32 - 1 }
     requires unknowns { gathered.old.unknowns + length text.now < 2 ^ 32 - 1 }
     ensures taken { OnOk result (IsFileTaken file text.now gathered.old gathered.new) }
     ensures fault { IfErr result (λ f. OrMemory (IsFileFault file text.now) f) }
 {
     let mut declarations = Vec::new(alloc);
-    let mut rest = parsed.tokens.as_slice();
-    for (number, statement) in parsed.statements.iter().enumerate() {
-        let (tokens, after) = rest.split_at(statement.count);
-        let form = &statement.form;
-        let place = Place {
-            file,
-            number: number as u32,
-        };
-        take_statement(
+    let mut refusal = None;
+    let mut place = 0;
+    let mut number = 0;
+    while place < tokens.len() {
+        let next = next_statement(alloc, file, number, text, tokens, place)?;
+        let end = place + next.count;
+        refusal = judge(
             alloc,
             gathered,
             text,
-            declarations.as_slice(),
-            place,
-            tokens,
-            form,
-        )?;
-        declare(&mut declarations, form)?;
-        rest = after;
+            &mut declarations,
+            Place { file, number },
+            &tokens[place..end],
+            &next.form,
+            refusal,
+        );
+        drop(next);
+        place = end;
+        number += 1;
     }
-    Ok(())
+    match refusal {
+        Some(fault) => Err(fault),
+        None => Ok(()),
+    }
 }
 
 /// Takes the statements of a file, or tells its first refusal.
@@ -116,8 +178,8 @@ fn take_file(
     ensures taken { OnOk result (IsFileTaken file text.now gathered.old gathered.new) }
     ensures fault { IfErr result (λ f. OrMemory (IsFileFault file text.now) f) }
 {
-    let parsed = parse(alloc, file, text)?;
-    take_statements(alloc, gathered, file, text, &parsed)
+    let tokens = tokens_of(alloc, file, text)?;
+    take_statements(alloc, gathered, file, text, tokens.as_slice())
 }
 
 /// Why the statements stand for no input, once none of them is refused: there are too many rules or facts, no query, or

@@ -1,7 +1,10 @@
 //! The statements of one file.
-ghost use Rattle.std.specs.Prelude.{◌≡◌, ◌≤◌, ◌^◌, length, IfOk, IfErr, map};
+ghost use Rattle.std.specs.Prelude.{◌≤◌, ◌<◌, ◌^◌, length, drop, IfOk, IfErr};
 ghost use Rattle.ucq_lexer.specs.Tokens.{Spells};
-ghost use Rattle.ucq_reader.specs.Parse.{IsParsed, IsMalformed};
+ghost use Rattle.ucq_reader.specs.declared.stages.Ending.TheVariants.{Complete};
+ghost use Rattle.ucq_reader.specs.Ending.{IsEnding};
+ghost use Rattle.ucq_reader.specs.Outcome.{OrMemory};
+ghost use Rattle.ucq_reader.specs.Parse.{IsMalformed, IsNoStatement};
 
 use crate::ReadFault;
 use crate::stages::{Ending, statement};
@@ -16,14 +19,8 @@ pub struct CountedStatement {
     pub count: usize,
 }
 
-/// The statements of a file in order, and its tokens, which are those of the statements one after another.
-#[derive(Drop)]
-pub struct Parsed {
-    pub statements: Vec<CountedStatement>,
-    pub tokens: Vec<Token>,
-}
-
-fn tokens_of(alloc: Global, file: u32, text: &[u8]) -> Result<Vec<Token>, ReadFault>
+/// The tokens of a file, or the byte at which none begins.
+pub fn tokens_of(alloc: Global, file: u32, text: &[u8]) -> Result<Vec<Token>, ReadFault>
     requires { length text.now ≤ 2 ^ 26 }
     ensures found { IfOk result (λ tokens. Spells text.now tokens.items) }
     ensures fault { IfErr result (λ fault. IsMalformed file text.now fault) }
@@ -35,34 +32,30 @@ fn tokens_of(alloc: Global, file: u32, text: &[u8]) -> Result<Vec<Token>, ReadFa
     }
 }
 
-/// The statements of a file, or why it is no list of statements.
-pub fn parse(alloc: Global, file: u32, text: &[u8]) -> Result<Parsed, ReadFault>
-    requires { length text.now ≤ 2 ^ 26 }
-    ensures found { IfOk result (λ p. IsParsed text.now p) }
-    ensures fault { IfErr result (λ fault. IsMalformed file text.now fault) }
+/// The statement of this number in its file, which begins with the token at the place; or why there is none.
+pub fn next_statement(
+    alloc: Global,
+    file: u32,
+    number: u32,
+    text: &[u8],
+    tokens: &[Token],
+    place: usize,
+) -> Result<CountedStatement, ReadFault>
+    requires spells { Spells text.now tokens.now }
+    requires inside { place < length tokens.now }
+    ensures found { IfOk result (λ s. IsEnding text.now (drop place tokens.now) (Complete s.form s.count)) }
+    ensures fault { IfErr result (λ fault. OrMemory (IsNoStatement file number text.now tokens.now place) fault) }
 {
-    let tokens = tokens_of(alloc, file, text)?;
-    let mut statements = Vec::new(alloc);
-    let mut place = 0;
-    while place < tokens.len() {
-        match statement(alloc, text, &tokens[place..])? {
-            Ending::Complete(form, count) => {
-                statements.push(CountedStatement { form, count })?;
-                place += count;
-            }
-            Ending::Bad(count) => {
-                let at = tokens[place + count].start;
-                return Err(ReadFault::BadStatement {
-                    file,
-                    number: statements.len() as u32,
-                    at,
-                });
-            }
-            Ending::Unfinished => {
-                let at = tokens[place].start;
-                return Err(ReadFault::OpenEnd { file, at });
-            }
-        }
+    match statement(alloc, text, &tokens[place..])? {
+        Ending::Complete(form, count) => Ok(CountedStatement { form, count }),
+        Ending::Bad(count) => Err(ReadFault::BadStatement {
+            file,
+            number,
+            at: tokens[place + count].start,
+        }),
+        Ending::Unfinished => Err(ReadFault::OpenEnd {
+            file,
+            at: tokens[place].start,
+        }),
     }
-    Ok(Parsed { statements, tokens })
 }

@@ -1,8 +1,5 @@
-use Rattle.ucq_facts.specs.Index.{HasRoomFrom, IsPushedBefore}
+use Rattle.ucq_facts.specs.Index.{IsPushedBefore}
 use Rattle.ucq_facts.proofs.push_terms.Given as goal
 
 abbrev pub invariant-loop-place : goal.invariant-loop-place
-invariant-loop-place l = record {
-  pushed : IsPushedBefore l.initial.by_term l.atom l.place l.number l.by_term;
-  room : HasRoomFrom l.by_term l.atom l.place;
-}
+invariant-loop-place l = IsPushedBefore l.initial.by_term l.atom l.place l.number l.by_term

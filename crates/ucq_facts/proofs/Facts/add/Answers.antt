@@ -1,50 +1,42 @@
-use Rattle.std.proofs.Common.{◌≡◌, false, List, [], ◌∷◌, ◌++◌, length, length-append, Contains, refl, sym, ap, ◌∙◌, subst, true≢false, arith}
-use Rattle.std.specs.List.{list_any}
-use Rattle.indexmap.proofs.CallerLemmas.{Contains-list_any}
+use Rattle.std.proofs.Common.{◌≡◌, true, List, [], ◌∷◌, length, length-append, slice_get, sym, ap, ◌∙◌, subst, arith}
+use Rattle.std.specs.Prelude.{option_copied}
 use Rattle.ucq_terms.specs.Syntax.{Atom}
-use Rattle.ucq_terms.specs.Numbering.{atom_eq}
-use Rattle.ucq_terms.specs.Equality.{Decides-atom_eq}
-use Rattle.ucq_terms.proofs.Numbering.{any_from_contains}
-use Rattle.ucq_terms.proofs.Equality.{IsEquality-atom_eq}
-use Rattle.ucq_facts.specs.declared.keys.Predicate.{Predicate}
+use Rattle.ucq_facts.specs.Facts.{DoesAdd}
 use Rattle.ucq_facts.specs.Postings.{IsPushed}
-use Rattle.ucq_facts.specs.Index.{predicate_eq, IsIndexed}
-use Rattle.ucq_facts.proofs.Indexed.{IsIndexed-keeps, IsIndexed-push}
+use Rattle.ucq_facts.specs.Index.{predicate_eq, predicate_of, IsIndexed, IsPushedBefore}
+use Rattle.ucq_facts.proofs.Indexed.{IsIndexed-push}
+use Rattle.ucq_facts.proofs.Inserted.{inserted, last_of}
 use Rattle.ucq_facts.proofs.Facts.add.Goals as goal
 
-pub returns-then-contains-clause-does : goal.returns-then-contains-clause-does
-returns-then-contains-clause-does c =
-    let held : Contains c.self.inside.atoms.keys c.args.atom =
-    Contains-list_any atom_eq (λ x y e. (Decides-atom_eq x y).0 e) c.self.inside.atoms.keys c.args.atom (sym c.contains.ensures ∙ c.if-contains.true) in
-    (subst (λ (xs : List Atom). Contains xs c.args.atom) c.self.view_is held, refl)
+pub returns-then-not-branch-clause-does : goal.returns-then-not-branch-clause-does
+returns-then-not-branch-clause-does c =
+    let new = c.insert.new.self.keys in
+    let is : DoesAdd c.self.inside.atoms.keys c.args.atom c.in_ok-insert.field-0 new =
+    inserted c.self.inside.atoms.keys c.args.atom c.in_ok-insert.field-0 new c.in_ok-insert.ensures.added c.in_ok-insert.ensures.keys in
+    rw c.if-not-branch.true at (subst (λ (xs : List Atom). DoesAdd xs c.args.atom c.in_ok-insert.field-0 new) c.self.view_is is)
 
-pub invariant_of-self-2 : goal.invariant_of-self-2
-invariant_of-self-2 c =
-    let f = c.self.inside in
-    let facts : List Atom = f.atoms.keys in
-    let keys : c.insert_within.new.atoms.keys ≡ facts ++ c.args.atom ∷ [] =
-    c.insert_within.ensures ∙ ap (λ (xs : List Atom). xs ++ c.args.atom ∷ []) c.in_ok-reserve.ensures.keys in
-    let size = ap (λ (xs : List Atom). length xs) keys in
-    let view = ap (λ (xs : List Atom). length xs) c.self.view_is in
-    let indexed =
-    IsIndexed-keeps facts f.by_predicate c.make_room.new.self f.by_term c.make_room_for_terms.new.by_term c.make_room.ensures.lists
-    c.make_room_for_terms.ensures.lists c.self.invariant.1 in
-    let first : IsPushed predicate_eq c.make_room.new.self (record { name = c.args.atom.name; arity = length c.args.atom.terms }) c.len-place.result c.push.new.self =
-    subst (λ (k : Predicate). IsPushed predicate_eq c.make_room.new.self k c.len-place.result c.push.new.self) c.of-predicate.ensures c.push.ensures in
-    let pushed =
-    IsIndexed-push facts c.args.atom c.len-place.result c.make_room.new.self c.push.new.self c.make_room_for_terms.new.by_term c.push_terms.new.by_term indexed
-    c.len-place.ensures.len first c.push_terms.ensures in (
-      omega (arith, size, length-append facts (c.args.atom ∷ []), view, c.requires),
-      subst (λ (xs : List Atom). IsIndexed xs c.push.new.self c.push_terms.new.by_term) (sym keys) pushed,
-    )
+pub returns-in-Ok-clause-does : goal.returns-in-Ok-clause-does
+returns-in-Ok-clause-does c =
+    let new = c.insert.new.self.keys in
+    let is : DoesAdd c.self.inside.atoms.keys c.args.atom c.in_ok-insert.field-0 new =
+    inserted c.self.inside.atoms.keys c.args.atom c.in_ok-insert.field-0 new c.in_ok-insert.ensures.added c.in_ok-insert.ensures.keys in
+    rw c.if-not-branch.false at (subst (λ (xs : List Atom). DoesAdd xs c.args.atom c.in_ok-insert.field-0 new) c.self.view_is is)
 
-pub returns-clause-does : goal.returns-clause-does
-returns-clause-does c =
+pub invariant_of-self-in-Ok : goal.invariant_of-self-in-Ok
+invariant_of-self-in-Ok c =
     let facts : List Atom = c.self.inside.atoms.keys in
-    let absent : list_any (atom_eq c.args.atom) facts ≡ false = sym c.contains.ensures ∙ c.if-contains.false in
-    let keys : c.insert_within.new.atoms.keys ≡ facts ++ c.args.atom ∷ [] =
-    c.insert_within.ensures ∙ ap (λ (xs : List Atom). xs ++ c.args.atom ∷ []) c.in_ok-reserve.ensures.keys in (
-      λ held. let h : Contains facts c.args.atom = subst (λ (xs : List Atom). Contains xs c.args.atom) (sym c.self.view_is) held in
-          true≢false (sym (any_from_contains atom_eq IsEquality-atom_eq facts c.args.atom h) ∙ absent),
-      keys ∙ ap (λ (xs : List Atom). xs ++ c.args.atom ∷ []) c.self.view_is,
+    let is : DoesAdd facts c.args.atom true c.insert.new.self.keys =
+    rw c.if-not-branch.false at (inserted facts c.args.atom c.in_ok-insert.field-0 c.insert.new.self.keys c.in_ok-insert.ensures.added c.in_ok-insert.ensures.keys) in
+    let atom : c.unwrap-atom.result.now ≡ c.args.atom =
+    last_of facts c.args.atom c.unwrap-atom.result.now c.len-number.result c.len-number.ensures.len
+    (ap option_copied (sym c.unwrap-atom.ensures) ∙ (c.get_index.ensures.key ∙ ap (λ (xs : List Atom). slice_get xs c.len-number.result) is.1)) in
+    let size = ap (λ (xs : List Atom). length xs) is.1 in
+    let view = ap (λ (xs : List Atom). length xs) c.self.view_is in
+    let first = subst (λ (a : Atom). IsPushed predicate_eq c.self.inside.by_predicate (predicate_of a) c.len-number.result c.push.new.by_predicate) atom c.in-Ok.ensures.predicate in
+    let terms = subst (λ (a : Atom). IsPushedBefore c.self.inside.by_term a (length a.terms) c.len-number.result c.push.new.by_term) atom c.in-Ok.ensures.terms in
+    let pushed =
+    IsIndexed-push facts c.args.atom c.len-number.result c.self.inside.by_predicate c.push.new.by_predicate c.self.inside.by_term c.push.new.by_term
+    c.self.invariant.1 c.len-number.ensures.len first terms in (
+      omega (arith, size, length-append facts (c.args.atom ∷ []), view, c.requires),
+      subst (λ (xs : List Atom). IsIndexed xs c.push.new.by_predicate c.push.new.by_term) (sym is.1) pushed,
     )
