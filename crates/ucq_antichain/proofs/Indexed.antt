@@ -3,10 +3,10 @@ use Rattle.std.proofs.Common.{◌≡◌, ℕ, ◌+◌, ◌*◌, ◌/◌, ◌<◌
 use Rattle.std.proofs.lemmas.Bool.{cases_eq}
 use Rattle.std.proofs.lemmas.List.{get_or_append_left, get_or_at, length-append}
 use Rattle.ucq_hom.specs.Signature.{Marks}
-use Rattle.ucq_antichain.specs.Sets.{Sets, IsIn, Keeps, IsListOf}
-use Rattle.ucq_antichain.specs.Chains.{Chained, IsInChain}
-use Rattle.ucq_antichain.specs.Chains.{Keeps as Stay}
-use Rattle.ucq_antichain.specs.Index.{no_marks, signature_at, IsMarkOf, IsKeyBeside, IsKeyOf, HasKey, IsIndex}
+use Rattle.ucq_antichain.specs.inner.Sets.{Sets, IsIn, Keeps, IsListOf}
+use Rattle.ucq_antichain.specs.inner.Chains.{Chained, IsInChain}
+use Rattle.ucq_antichain.specs.inner.Chains.{Keeps as Stay}
+use Rattle.ucq_antichain.specs.inner.Index.{no_marks, signature_at, IsMarkOf, IsKeyBeside, IsKeyOf, HasKey, IsIndex}
 
 -- how a key was chosen
 abbrev pub IsKey : List ℕ → ℕ → ℕ → Type 0

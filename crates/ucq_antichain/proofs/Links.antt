@@ -5,7 +5,7 @@ use Rattle.std.specs.Int.{bit_at}
 use Rattle.std.proofs.Math.ListN.{set, replicate}
 use Rattle.std.proofs.lemmas.Bool.{cases_eq}
 use Rattle.std.proofs.lemmas.List.{get_or_append_left, get_or_at, get_or_past, get_or-replicate, length-replicate, length-append, length-set, get_or-set_same, get_or-set_other}
-use Rattle.ucq_antichain.specs.Chains.{follow, Reaches, Keeps, AreChains}
+use Rattle.ucq_antichain.specs.inner.Chains.{follow, Reaches, Keeps, AreChains}
 use Rattle.ucq_antichain.proofs.Words.{and_both, cases_below}
 
 -- the links of a list that fall

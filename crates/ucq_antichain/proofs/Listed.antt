@@ -4,7 +4,7 @@ use Rattle.std.specs.Int.{bit_at}
 use Rattle.std.proofs.Math.ListN.{set}
 use Rattle.std.proofs.lemmas.Bool.{cases_eq}
 use Rattle.std.proofs.lemmas.List.{get_or-set_same, get_or-set_other, get_or-take, length-take-le}
-use Rattle.ucq_antichain.specs.Sets.{IsListOf}
+use Rattle.ucq_antichain.specs.inner.Sets.{IsListOf}
 use Rattle.ucq_antichain.proofs.Words.{cases_below}
 
 -- the first so many of the list are the marks below one that are bits

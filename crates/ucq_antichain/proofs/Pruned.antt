@@ -9,7 +9,7 @@ use Rattle.ucq_terms.specs.Homomorphism.{Covers}
 use Rattle.ucq_antichain.specs.declared.Row.{Row}
 use Rattle.ucq_antichain.specs.Rows.{no_row, row_at, query_at, IsAdded, SomeLiveCovers, live_count}
 use Rattle.ucq_antichain.specs.Calls.{MayDie, IsPruned, AddsRow}
-use Rattle.ucq_antichain.specs.Walks.{NoneCovered, DiesAt, IsPrunedFrom}
+use Rattle.ucq_antichain.specs.inner.Walks.{NoneCovered, DiesAt, IsPrunedFrom}
 use Rattle.ucq_antichain.proofs.Words.{cases_below}
 
 -- what pruning keeps of a row and changes

@@ -10,10 +10,10 @@ use Rattle.ucq_hom.specs.Signature.{Marks, signature_of, IsPartOf}
 use Rattle.ucq_hom.proofs.Signatures.{first_part, covers_part}
 use Rattle.ucq_antichain.specs.declared.Row.{Row}
 use Rattle.ucq_antichain.specs.Rows.{no_row, row_at, query_at, IsLiveAt, SomeLiveCovers, IsFirstCover}
-use Rattle.ucq_antichain.specs.Sets.{IsListOf}
-use Rattle.ucq_antichain.specs.Chains.{Chained, Reaches, IsInChain}
-use Rattle.ucq_antichain.specs.Index.{Indexed, no_marks, signature_at, IsKeyOf, AreChainsOf}
-use Rattle.ucq_antichain.specs.Walks.{IsIndexOf, IsBest, NoneEarlier, NoneBeside, NoneCovered}
+use Rattle.ucq_antichain.specs.inner.Sets.{IsListOf}
+use Rattle.ucq_antichain.specs.inner.Chains.{Chained, Reaches, IsInChain}
+use Rattle.ucq_antichain.specs.inner.Index.{Indexed, no_marks, signature_at, IsKeyOf, AreChainsOf}
+use Rattle.ucq_antichain.specs.inner.Walks.{IsIndexOf, IsBest, NoneEarlier, NoneBeside, NoneCovered}
 use Rattle.ucq_antichain.proofs.Words.{cases_below}
 use Rattle.ucq_antichain.proofs.Links.{reach_cases, none_after_end}
 use Rattle.ucq_antichain.proofs.Pruned.{with_last}

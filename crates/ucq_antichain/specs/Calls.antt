@@ -5,7 +5,7 @@ use Rattle.ucq_terms.specs.Homomorphism.{Covers}
 use Rattle.ucq_antichain.specs.declared.Row.{Row}
 use Rattle.ucq_antichain.specs.declared.Added.{Added}
 use Rattle.ucq_antichain.specs.declared.Added.TheVariants as answer
-use Rattle.ucq_antichain.specs.Rows.{Kept, query_at, IsLiveAt, SomeLiveCovers, IsFirstCover, IsAdded, live_count}
+use Rattle.ucq_antichain.specs.Rows.{AntichainValue, query_at, IsLiveAt, SomeLiveCovers, IsFirstCover, IsAdded, live_count}
 
 -- it is the first live row that covers the query, or there is none
 abbrev pub IsCoverIn : List Row → Query → Option ℕ → Type 0
@@ -30,7 +30,7 @@ pub record IsPruned (q : Query) (before after : List Row) (pruned : ℕ) : Type 
   pub fewer : live_count after + pruned ≡ live_count before
 
 -- No live row covers the query and there is room. It is added as the last row, and so many live rows die.
-pub record AddsRow (a : Kept) (q : Query) (row pruned : ℕ) (after : Kept) : Type 0 where
+pub record AddsRow (a : AntichainValue) (q : Query) (row pruned : ℕ) (after : AntichainValue) : Type 0 where
   pub uncovered : ¬ SomeLiveCovers a.rows q
   pub last : row ≡ length a.rows
   pub room : row < a.budget
@@ -39,7 +39,7 @@ pub record AddsRow (a : Kept) (q : Query) (row pruned : ℕ) (after : Kept) : Ty
   pub fewer : live_count after.rows + pruned ≡ live_count a.rows + 1
 
 -- A query that a live row covers, or for which there is no room, comes back, and nothing changes.
-abbrev pub DoesAdd : Kept → Query → Added → Kept → Type 0
+abbrev pub DoesAdd : AntichainValue → Query → Added → AntichainValue → Type 0
 DoesAdd a q (answer.Covered row query) after = (after ≡ a) × (query ≡ q) × IsFirstCover a.rows q row
 DoesAdd a q (answer.Full query) after = (after ≡ a) × (query ≡ q) × (¬ SomeLiveCovers a.rows q) × (length a.rows ≡ a.budget)
 DoesAdd a q (answer.Added row pruned) after = AddsRow a q row pruned after

@@ -52,6 +52,6 @@ pub record IsAdded (q : Query) (before after : List Row) : Type 0 where
   pub earlier_dead : (row : ℕ) → row < length before → ¬ IsLiveAt before row → ¬ IsLiveAt after row
 
 -- an antichain: at most so many rows
-pub record Kept : Type 0 where
+pub record AntichainValue : Type 0 where
   pub budget : ℕ
   pub rows : List Row

@@ -2,7 +2,7 @@
 ghost use Rattle.std.specs.Prelude.{◌≡◌, ◌+◌, ◌*◌, ◌<◌, ◌≤◌, ℕ, length, slice_index, vec_len, IfOk};
 ghost use Rattle.std.specs.Vec.{vec_capacity};
 ghost use Rattle.std.specs.Int.{bit_at};
-ghost use Rattle.ucq_antichain.specs.Chains.{IsInChain, Keeps};
+ghost use Rattle.ucq_antichain.specs.inner.Chains.{IsInChain, Keeps};
 
 use crate::push_within;
 use std::alloc::Global;
@@ -25,7 +25,7 @@ pub struct Chains {
 impl Model for Chains {
     ghost use Rattle.std.specs.Prelude.{◌<◌, vec_len};
     ghost use Rattle.std.specs.Vec.{vec_capacity};
-    ghost use Rattle.ucq_antichain.specs.Chains.{Chained, AreChains};
+    ghost use Rattle.ucq_antichain.specs.inner.Chains.{Chained, AreChains};
 
     ghost Value = { Chained };
 
@@ -82,7 +82,12 @@ impl Chains {
     /// Of the marks of the other set those whose chain beside this mark may have a row.
     pub fn filled(&self, first: u32, others: u128) -> u128
         requires { first < 128 }
-        ensures { (j : ℕ) → j < 128 → bit_at others j ≡ 1 → bit_at result j ≡ 0 → (row : ℕ) → ¬ IsInChain self.now (128 * first + j) row }
+        ensures { (j : ℕ) →
+            j < 128 →
+            bit_at others j ≡ 1 →
+            bit_at result j ≡ 0 →
+            (row : ℕ) →
+            ¬ IsInChain self.now (128 * first + j) row }
     {
         self.filled[first as usize] & others
     }

@@ -4,7 +4,7 @@ ghost use Rattle.std.specs.Prelude.{◌≡◌, ◌+◌, ◌*◌, ◌/◌, ◌%�
 ghost use Rattle.std.specs.Vec.{vec_capacity};
 ghost use Rattle.std.specs.Int.{bit_at};
 ghost use Rattle.ucq_hom.specs.Signature.{IsPartOf};
-ghost use Rattle.ucq_antichain.specs.Index.{signature_at, IsKeyOf, AreChainsOf, IsKeyBeside};
+ghost use Rattle.ucq_antichain.specs.inner.Index.{signature_at, IsKeyOf, AreChainsOf, IsKeyBeside};
 
 use crate::bits::next_bit;
 use crate::chains::{Chains, NO_PAIR, pair};
@@ -35,13 +35,16 @@ pub struct Index {
 impl Model for Index {
     ghost use Rattle.std.specs.Prelude.{◌*◌, ◌≤◌, ◌<◌};
     ghost use Rattle.std.specs.Vec.{vec_capacity};
-    ghost use Rattle.ucq_antichain.specs.Index.{Indexed, IsIndex};
+    ghost use Rattle.ucq_antichain.specs.inner.Index.{Indexed, IsIndex};
 
     ghost Value = { Indexed };
 
     ghost view = { λ i. record { groups = i.groups; signatures = i.signatures.items; chains = i.chains } };
 
-    ghost invariant = { λ i. IsIndex i.groups i.signatures.items i.all i.words i.chains × (4096 * i.groups ≤ vec_capacity i.signatures) × (4096 * i.groups < i.chains.room) };
+    ghost invariant = { λ i.
+        IsIndex i.groups i.signatures.items i.all i.words i.chains
+        × (4096 * i.groups ≤ vec_capacity i.signatures)
+        × (4096 * i.groups < i.chains.room) };
 }
 
 impl Index {
@@ -110,7 +113,11 @@ impl Index {
     /// Of the 64 words of a group those with a row that a query may cover, as bits.
     pub fn words(&self, marked: &Marked, group: usize) -> u64
         requires { group < self.now.groups }
-        ensures { (row : ℕ) → row < length self.now.signatures → row / 4096 ≡ group → IsPartOf marked.now.first (signature_at self.now.signatures row).first → bit_at result (row / 64 % 64) ≡ 1 }
+        ensures { (row : ℕ) →
+            row < length self.now.signatures →
+            row / 4096 ≡ group →
+            IsPartOf marked.now.first (signature_at self.now.signatures row).first →
+            bit_at result (row / 64 % 64) ≡ 1 }
     {
         self.words.common(marked.marks(), group)
     }
@@ -118,7 +125,11 @@ impl Index {
     /// Of the 64 rows of a word those that a query may cover, as bits.
     pub fn rows(&self, marked: &Marked, word: usize) -> u64
         requires { word < 64 * self.now.groups }
-        ensures { (row : ℕ) → row < length self.now.signatures → row / 64 ≡ word → IsPartOf marked.now.first (signature_at self.now.signatures row).first → bit_at result (row % 64) ≡ 1 }
+        ensures { (row : ℕ) →
+            row < length self.now.signatures →
+            row / 64 ≡ word →
+            IsPartOf marked.now.first (signature_at self.now.signatures row).first →
+            bit_at result (row % 64) ≡ 1 }
     {
         self.all.common(marked.marks(), word)
     }
@@ -149,7 +160,8 @@ fn rarest_beside(counts: &[u16], first: u32, others: u128, key: u32) -> u32
 // The pair of marks that the fewest rows have. It is `NO_PAIR` if there is none.
 fn rarest(counts: &[u16], marks: &[u32], others: u128) -> u32
     requires { (k : ℕ) → k < length marks.now → slice_index marks.now k < 128 }
-    ensures { (result ≡ 16384) ⊎ ((k : ℕ) × (k < length marks.now) × IsKeyBeside others (slice_index marks.now k) result) }
+    ensures { (result ≡ 16384)
+        ⊎ ((k : ℕ) × (k < length marks.now) × IsKeyBeside others (slice_index marks.now k) result) }
 {
     let mut best = NO_PAIR;
     for mark in marks {

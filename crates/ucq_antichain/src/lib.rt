@@ -2,13 +2,14 @@
 #![tactic(auto)]
 
 ghost use Rattle.std.specs.Prelude.{◌≡◌, ◌+◌, ◌*◌, ◌<◌, ◌≤◌, ◌++◌, ◌∷◌, [], length, IfOk, IsTrue, ◌↔◌, vec_len};
+ghost use Rattle.ucq_terms.specs.declared.TheConstants.{ROWS};
 ghost use Rattle.std.specs.Vec.{vec_capacity};
 ghost use Rattle.ucq_terms.specs.Homomorphism.{Covers};
 ghost use Rattle.ucq_terms.specs.Query.{IsStored};
 ghost use Rattle.ucq_hom.specs.Space.{IsClear};
 ghost use Rattle.ucq_hom.specs.Signature.{signature_of};
 ghost use Rattle.ucq_antichain.specs.Rows.{row_at, query_at, live_queries, IsLiveAt};
-ghost use Rattle.ucq_antichain.specs.Walks.{IsIndexOf, IsBest, NoneEarlier, NoneBeside, DiesAt, IsPrunedFrom};
+ghost use Rattle.ucq_antichain.specs.inner.Walks.{IsIndexOf, IsBest, NoneEarlier, NoneBeside, DiesAt, IsPrunedFrom};
 ghost use Rattle.ucq_antichain.specs.Calls.{IsCoverIn, MayDie, IsPruned, DoesAdd};
 
 mod bits;
@@ -46,15 +47,23 @@ pub struct Antichain {
 
 impl Model for Antichain {
     ghost use Rattle.std.specs.Prelude.{◌≡◌, ◌*◌, ◌≤◌, [], length};
+    ghost use Rattle.ucq_terms.specs.declared.TheConstants.{ROWS};
     ghost use Rattle.std.specs.Vec.{vec_capacity};
-    ghost use Rattle.ucq_antichain.specs.Rows.{Kept};
-    ghost use Rattle.ucq_antichain.specs.Walks.{IsIndexOf};
+    ghost use Rattle.ucq_antichain.specs.Rows.{AntichainValue};
+    ghost use Rattle.ucq_antichain.specs.inner.Walks.{IsIndexOf};
 
-    ghost Value = { Kept };
+    ghost Value = { AntichainValue };
 
     ghost view = { λ a. record { budget = a.budget; rows = a.rows.items } };
 
-    ghost invariant = { λ a. (a.budget ≤ 65536) × (length a.rows.items ≤ a.budget) × (a.budget ≤ vec_capacity a.rows) × (a.room.items ≡ []) × (a.budget ≤ vec_capacity a.room) × IsIndexOf a.index a.rows.items × (a.budget ≤ 4096 * a.index.groups) };
+    ghost invariant = { λ a.
+        (a.budget ≤ ROWS)
+        × (length a.rows.items ≤ a.budget)
+        × (a.budget ≤ vec_capacity a.rows)
+        × (a.room.items ≡ [])
+        × (a.budget ≤ vec_capacity a.room)
+        × IsIndexOf a.index a.rows.items
+        × (a.budget ≤ 4096 * a.index.groups) };
 }
 
 /// What became of a query that was to be added.
@@ -72,7 +81,7 @@ impl Antichain {
     /// No row, and room for as many as the budget says, which is 1 to 65,536. No other call takes memory.
     pub fn new(alloc: Global, budget: u32) -> Result<Antichain, NoMemory>
         requires some { 0 < budget }
-        requires small { budget ≤ 65536 }
+        requires small { budget ≤ ROWS }
         ensures { IfOk result (λ a. a ≡ record { budget = budget; rows = [] }) }
     {
         let rows = Vec::with_capacity(alloc, budget as usize)?;
@@ -90,7 +99,7 @@ impl Antichain {
     pub fn len(&self) -> u32
         ensures len { result ≡ length self.now.rows }
         ensures within { result ≤ self.now.budget }
-        ensures few { self.now.budget ≤ 65536 }
+        ensures few { self.now.budget ≤ ROWS }
     {
         self.rows.len() as u32
     }
@@ -98,7 +107,7 @@ impl Antichain {
     /// The most rows that there may be.
     pub fn budget(&self) -> u32
         ensures budget { result ≡ self.now.budget }
-        ensures small { result ≤ 65536 }
+        ensures small { result ≤ ROWS }
     {
         self.budget
     }
@@ -160,7 +169,7 @@ impl Antichain {
     /// The queries of the live rows, in order.
     pub fn into_live(self) -> Vec<Query>
         ensures live { result.items ≡ live_queries self.rows }
-        ensures few { vec_len result ≤ 65536 }
+        ensures few { vec_len result ≤ ROWS }
     {
         let mut live = self.room;
         for row in self.rows {
@@ -301,7 +310,7 @@ fn first_cover(
 ) -> Option<u32>
     requires index { IsIndexOf index.now rows.now }
     requires marked { marked.now ≡ signature_of query.now }
-    requires few { length rows.now ≤ 65536 }
+    requires few { length rows.now ≤ ROWS }
     ensures cover { IsCoverIn rows.now query.now result }
     ensures clear { IsClear space.new }
 {
@@ -373,7 +382,7 @@ fn prune_word(
 ) -> u32
     requires index { IsIndexOf index.now rows.old }
     requires marked { marked.now ≡ signature_of query.now }
-    requires few { length rows.old ≤ 65536 }
+    requires few { length rows.old ≤ ROWS }
     requires clear { IsClear space.old }
     requires low { word < 1024 }
     requires word { word < 64 * index.now.groups }
@@ -403,7 +412,7 @@ fn prune_group(
 ) -> u32
     requires index { IsIndexOf index.now rows.old }
     requires marked { marked.now ≡ signature_of query.now }
-    requires few { length rows.old ≤ 65536 }
+    requires few { length rows.old ≤ ROWS }
     requires clear { IsClear space.old }
     requires low { group < 16 }
     requires group { group < index.now.groups }
@@ -430,7 +439,7 @@ fn prune(
 ) -> u32
     requires index { IsIndexOf index.now rows.old }
     requires marked { marked.now ≡ signature_of query.now }
-    requires few { length rows.old ≤ 65536 }
+    requires few { length rows.old ≤ ROWS }
     requires clear { IsClear space.old }
     ensures pruned { IsPruned query.now rows.old rows.new result }
     ensures clear { IsClear space.new }

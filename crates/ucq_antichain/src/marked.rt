@@ -1,7 +1,7 @@
 //! A query's signature with a list of its marks.
 ghost use Rattle.std.specs.Prelude.{◌≡◌, ◌≤◌, take};
 ghost use Rattle.ucq_hom.specs.Signature.{signature_of};
-ghost use Rattle.ucq_antichain.specs.Sets.{IsListOf};
+ghost use Rattle.ucq_antichain.specs.inner.Sets.{IsListOf};
 
 use crate::bits::next_bit;
 use std::marker::Model;
@@ -19,7 +19,7 @@ pub struct Marked {
 impl Model for Marked {
     ghost use Rattle.std.specs.Prelude.{◌≤◌, take};
     ghost use Rattle.ucq_hom.specs.Signature.{Marks};
-    ghost use Rattle.ucq_antichain.specs.Sets.{IsListOf};
+    ghost use Rattle.ucq_antichain.specs.inner.Sets.{IsListOf};
 
     ghost Value = { Marks };
 

@@ -1,7 +1,7 @@
 //! Sets of rows, as the bits of words.
 ghost use Rattle.std.specs.Prelude.{◌≡◌, ◌+◌, ◌*◌, ◌/◌, ◌%◌, ◌<◌, ◌≤◌, ℕ, length, slice_index, IfOk, true};
 ghost use Rattle.std.specs.Int.{bit_at};
-ghost use Rattle.ucq_antichain.specs.Sets.{IsIn, Keeps};
+ghost use Rattle.ucq_antichain.specs.inner.Sets.{IsIn, Keeps};
 
 use crate::bits::{both, with_bit};
 use std::alloc::Global;
@@ -20,7 +20,7 @@ pub struct RowSets {
 
 impl Model for RowSets {
     ghost use Rattle.std.specs.Prelude.{◌≡◌, ◌*◌, ◌≤◌, length};
-    ghost use Rattle.ucq_antichain.specs.Sets.{Sets};
+    ghost use Rattle.ucq_antichain.specs.inner.Sets.{Sets};
 
     ghost Value = { Sets };
 
@@ -75,7 +75,10 @@ impl RowSets {
     pub fn common(&self, marks: &[u32], word: usize) -> u64
         requires marks { (k : ℕ) → k < length marks.now → slice_index marks.now k < 128 }
         requires word { word < self.now.width }
-        ensures { (r : ℕ) → r / 64 ≡ word → ((k : ℕ) → k < length marks.now → IsIn self.now (slice_index marks.now k) r) → bit_at result (r % 64) ≡ 1 }
+        ensures { (r : ℕ) →
+            r / 64 ≡ word →
+            ((k : ℕ) → k < length marks.now → IsIn self.now (slice_index marks.now k) r) →
+            bit_at result (r % 64) ≡ 1 }
     {
         let mut rows = u64::MAX;
         for mark in marks {

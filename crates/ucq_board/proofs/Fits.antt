@@ -8,13 +8,13 @@ use Rattle.atomic_table.specs.Seated.{TableId}
 use Rattle.ucq_board.specs.declared.rule.View.{View}
 use Rattle.ucq_board.specs.Steps.{finishing, seeing, AsksRow}
 use Rattle.ucq_board.specs.Calls.{DoesAskRow}
-use Rattle.ucq_board.specs.Values.{BoardValue, SeatValue, IsOf, IsSeat}
+use Rattle.ucq_board.specs.Values.{BoardValue, SeatValue, IsSeatOf, IsSeat}
 
 pub one_table :
     (t : TableId) (v : View) (seat : SeatValue) (u : TableId) (rows seats : ℕ) (board : BoardValue) →
     record { table = t; view = v } ≡ seat →
     record { table = u; rows = rows; seats = seats } ≡ board →
-    IsOf board seat →
+    IsSeatOf board seat →
     t ≡ u
 one_table t v seat u rows seats board p q e = ap (λ (s : SeatValue). s.table) p ∙ e ∙ sym (ap (λ (b : BoardValue). b.table) q)
 

@@ -31,8 +31,8 @@ told_by words rows = record {
 }
 
 -- the board gave the seat
-abbrev pub IsOf : BoardValue → SeatValue → Type 0
-IsOf board seat = seat.table ≡ board.table
+abbrev pub IsSeatOf : BoardValue → SeatValue → Type 0
+IsSeatOf board seat = seat.table ≡ board.table
 
 -- whether the row is done
 abbrev pub is_done_in : ClosedValue → ℕ → Bool

@@ -3,7 +3,7 @@ ghost use Rattle.std.specs.Prelude.{◌≡◌, ◌≤◌, ◌<◌, ◌+◌, ℕ,
 ghost use Rattle.ucq_board.specs.Lists.{AreBelow, AreOnce};
 ghost use Rattle.ucq_board.specs.Rule.{fresh};
 ghost use Rattle.ucq_board.specs.Steps.{left_of, right_of, both_of, finishing, stopping};
-ghost use Rattle.ucq_board.specs.Values.{IsOf, is_done_in};
+ghost use Rattle.ucq_board.specs.Values.{IsSeatOf, is_done_in};
 ghost use Rattle.ucq_board.specs.Calls.{DoesDraw, DoesAskStop, DoesAskRow, MayFinish};
 
 use crate::NoMemory;
@@ -36,7 +36,9 @@ impl Model for Board {
 
     ghost Value = { BoardValue };
 
-    ghost view = { λ b. record { table = b.table.shared.table_id; rows = b.rows; seats = b.seats } };
+    ghost view = {
+        λ b. record { table = b.table.shared.table_id; rows = b.rows; seats = b.seats }
+    };
 
     ghost invariant = { λ b. IsBoard b.table.shared.table_id b.table.shared.key b.rows b.seats };
 }
@@ -57,7 +59,9 @@ impl Model for Seat {
 
     ghost view = { λ s. record { table = s.inner.table_id; view = s.inner.me.0 } };
 
-    ghost invariant = { λ s. IsSeat s.inner.table_id s.inner.me.0 s.spare s.ended × (s.inner.me.1 ≡ []) };
+    ghost invariant = {
+        λ s. IsSeat s.inner.table_id s.inner.me.0 s.spare s.ended × (s.inner.me.1 ≡ [])
+    };
 }
 
 /// What is left of a board that was closed: how many rows were drawn, whether stop was called, and which rows are done.
@@ -74,7 +78,11 @@ impl Model for Closed {
 
     ghost view = { λ c. told_by (slots_items c.words.words) c.rows };
 
-    ghost invariant = { λ c. IsClosed (slots_len c.words.words) (slots_len c.words.slots) c.rows × IsFull c.words.words };
+    ghost invariant = {
+        λ c.
+            IsClosed (slots_len c.words.words) (slots_len c.words.slots) c.rows
+            × IsFull c.words.words
+    };
 }
 
 impl Drop for Closed {
@@ -133,7 +141,7 @@ impl Board {
         requires some { 1 ≤ seats }
         requires seats { seats ≤ 128 }
         ensures board { IfOk result (λ r. (r.0.rows ≡ rows) × (r.0.seats ≡ seats)) }
-        ensures seat { IfOk result (λ r. IsOf r.0 r.1) }
+        ensures seat { IfOk result (λ r. IsSeatOf r.0 r.1) }
         ensures view { IfOk result (λ r. r.1.view ≡ fresh (record { rows = rows; seats = seats })) }
     {
         let words = vec![in alloc; 0u64; rows as usize + 2]?;
@@ -158,11 +166,11 @@ impl Board {
     /// A new seat from one that has some to spare. It knows of the stop and of done rows what the other knows, and has drawn
     /// nothing.
     pub fn split(&self, seat: &mut Seat) -> Seat
-        requires board { IsOf self.now seat.old }
+        requires board { IsSeatOf self.now seat.old }
         requires spare { 1 ≤ seat.old.view.spare }
         ensures left { seat.new.view ≡ left_of seat.old.view }
         ensures right { result.view ≡ right_of seat.old.view }
-        ensures board { IsOf self.now seat.new × IsOf self.now result }
+        ensures board { IsSeatOf self.now seat.new × IsSeatOf self.now result }
     {
         let inner = self.table.shared.split_seat::<Splitting>(&mut seat.inner);
         seat.spare -= 1;
@@ -175,11 +183,11 @@ impl Board {
 
     /// Gives the seat all that the other has and knows. No row was drawn by both.
     pub fn join(&self, seat: &mut Seat, other: Seat)
-        requires board { IsOf self.now seat.old }
-        requires other { IsOf self.now other }
+        requires board { IsSeatOf self.now seat.old }
+        requires other { IsSeatOf self.now other }
         ensures both { seat.new.view ≡ both_of seat.old.view other.view }
         ensures once { AreOnce seat.new.view.drawn }
-        ensures board { IsOf self.now seat.new }
+        ensures board { IsSeatOf self.now seat.new }
     {
         let Seat {
             inner,
@@ -196,11 +204,11 @@ impl Board {
     /// Draws the next row for the seat, or `None` where the seat had ended, there is a stop, or no row is left, at which the
     /// seat ends. No other seat draws the row.
     pub fn draw(&self, seat: &mut Seat) -> Option<u32>
-        requires board { IsOf self.now seat.old }
+        requires board { IsSeatOf self.now seat.old }
         ensures does { DoesDraw seat.old.view result seat.new.view }
         ensures row { IfSome result (λ row. row < self.now.rows) }
         ensures may { IfSome result (λ row. MayFinish seat.new.view row) }
-        ensures board { IsOf self.now seat.new }
+        ensures board { IsSeatOf self.now seat.new }
     {
         if seat.ended || self.is_stopped(seat) {
             return None;
@@ -210,13 +218,13 @@ impl Board {
 
     // Takes a step of the cursor.
     fn draw_next(&self, seat: &mut Seat) -> Option<u32>
-        requires board { IsOf self.now seat.old }
+        requires board { IsSeatOf self.now seat.old }
         requires going { seat.old.view.ended ≡ false }
         requires unknowing { seat.old.view.knows ≡ false }
         ensures does { DoesDraw seat.old.view result seat.new.view }
         ensures row { IfSome result (λ row. row < self.now.rows) }
         ensures may { IfSome result (λ row. MayFinish seat.new.view row) }
-        ensures board { IsOf self.now seat.new }
+        ensures board { IsSeatOf self.now seat.new }
     {
         let found = self
             .table
@@ -231,10 +239,10 @@ impl Board {
 
     /// Whether some seat has called stop, which this one knows then.
     pub fn is_stopped(&self, seat: &mut Seat) -> bool
-        requires board { IsOf self.now seat.old }
+        requires board { IsSeatOf self.now seat.old }
         ensures does { DoesAskStop seat.old.view result seat.new.view }
         ensures knows { result ≡ seat.new.view.knows }
-        ensures board { IsOf self.now seat.new }
+        ensures board { IsSeatOf self.now seat.new }
     {
         let shared = &self.table.shared;
         shared.load::<AskingStop>(&mut seat.inner, STOP) != 0
@@ -242,10 +250,10 @@ impl Board {
 
     /// Says that the seat has finished a row that it has drawn, itself or through a join, and not finished yet.
     pub fn finish(&self, seat: &mut Seat, row: u32)
-        requires board { IsOf self.now seat.old }
+        requires board { IsSeatOf self.now seat.old }
         requires may { MayFinish seat.old.view row }
         ensures does { seat.new.view ≡ finishing seat.old.view row }
-        ensures board { IsOf self.now seat.new }
+        ensures board { IsSeatOf self.now seat.new }
     {
         let shared = &self.table.shared;
         shared.fetch_or::<Finishing>(&mut seat.inner, row as usize + FIRST_ROW, 1);
@@ -253,9 +261,9 @@ impl Board {
 
     /// Stops all drawing, at each draw that begins from now on.
     pub fn stop(&self, seat: &mut Seat)
-        requires board { IsOf self.now seat.old }
+        requires board { IsSeatOf self.now seat.old }
         ensures does { seat.new.view ≡ stopping seat.old.view }
-        ensures board { IsOf self.now seat.new }
+        ensures board { IsSeatOf self.now seat.new }
     {
         let shared = &self.table.shared;
         shared.fetch_or::<Stopping>(&mut seat.inner, STOP, 1);
@@ -263,11 +271,11 @@ impl Board {
 
     /// Whether some seat has finished the row, which this one has seen done then.
     pub fn is_done(&self, seat: &mut Seat, row: u32) -> bool
-        requires board { IsOf self.now seat.old }
+        requires board { IsSeatOf self.now seat.old }
         requires row { row < self.now.rows }
         ensures does { DoesAskRow seat.old.view row result seat.new.view }
         ensures seen { IsTrue result ↔ Contains seat.new.view.seen row }
-        ensures board { IsOf self.now seat.new }
+        ensures board { IsSeatOf self.now seat.new }
     {
         let shared = &self.table.shared;
         shared.load::<AskingRow>(&mut seat.inner, row as usize + FIRST_ROW) != 0
@@ -275,14 +283,18 @@ impl Board {
 
     /// Ends all drawing. The seat must be the last: all others were joined into it.
     pub fn close(self, seat: Seat) -> Closed
-        requires board { IsOf self seat }
+        requires board { IsSeatOf self seat }
         requires all { seat.view.spare + 1 ≡ self.seats }
         ensures drawn { AreBelow seat.view.drawn result.drawn }
         ensures all { seat.view.ended ≡ true → result.drawn ≡ self.rows }
         ensures stopped { result.stopped ≡ seat.view.called }
         ensures few { result.drawn ≤ self.rows }
         ensures count { length result.done ≡ self.rows }
-        ensures done { (row : ℕ) → row < self.rows → (IsTrue (is_done_in result row) ↔ Contains seat.view.finished row) }
+        ensures done {
+            (row : ℕ) →
+            row < self.rows →
+            (IsTrue (is_done_in result row) ↔ Contains seat.view.finished row)
+        }
     {
         let Board {
             table,

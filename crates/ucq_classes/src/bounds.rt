@@ -1,5 +1,6 @@
 //! Bounds above variables.
 ghost use Rattle.std.specs.Prelude.{◌≡◌, ◌<◌, ◌≤◌, ℕ, Contains};
+ghost use Rattle.ucq_terms.specs.declared.TheConstants.{VARIABLES};
 ghost use Rattle.ucq_terms.specs.declared.Term.TheVariants.{Variable};
 ghost use Rattle.ucq_terms.specs.Syntax.{OccursIn};
 
@@ -7,9 +8,9 @@ use ucq_terms::{Atom, Term};
 
 /// A number above the variables of the atoms.
 pub fn variable_bound(atoms: &[Atom]) -> u32
-    requires { (v : ℕ) → OccursIn atoms.now (Variable v) → v < 4096 }
+    requires { (v : ℕ) → OccursIn atoms.now (Variable v) → v < VARIABLES }
     ensures covers { (v : ℕ) → OccursIn atoms.now (Variable v) → v < result }
-    ensures low { result ≤ 4096 }
+    ensures low { result ≤ VARIABLES }
 {
     let mut bound = 0;
     for atom in atoms {
@@ -20,10 +21,10 @@ pub fn variable_bound(atoms: &[Atom]) -> u32
 
 // A number that is no less than the bound, and above the term where that is a variable.
 fn raise(bound: u32, term: Term) -> u32
-    requires { (v : ℕ) → term ≡ Variable v → v < 4096 }
+    requires { (v : ℕ) → term ≡ Variable v → v < VARIABLES }
     ensures keeps { bound ≤ result }
     ensures covers { (v : ℕ) → term ≡ Variable v → v < result }
-    ensures low { bound ≤ 4096 → result ≤ 4096 }
+    ensures low { bound ≤ VARIABLES → result ≤ VARIABLES }
 {
     match term {
         Term::Constant(_) => bound,
@@ -34,10 +35,10 @@ fn raise(bound: u32, term: Term) -> u32
 
 // The same with all these terms.
 fn raise_all(bound: u32, terms: &[Term]) -> u32
-    requires { (v : ℕ) → Contains terms.now (Variable v) → v < 4096 }
+    requires { (v : ℕ) → Contains terms.now (Variable v) → v < VARIABLES }
     ensures keeps { bound ≤ result }
     ensures covers { (v : ℕ) → Contains terms.now (Variable v) → v < result }
-    ensures low { bound ≤ 4096 → result ≤ 4096 }
+    ensures low { bound ≤ VARIABLES → result ≤ VARIABLES }
 {
     let mut raised = bound;
     for term in terms {

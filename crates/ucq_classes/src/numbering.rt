@@ -1,5 +1,6 @@
 //! Numberings.
 ghost use Rattle.std.specs.Prelude.{◌≡◌, ◌≢◌, ◌<◌, ◌≤◌, ◌+◌, ◌*◌, ◌^◌, ◌++◌, [], ◌∷◌, ℕ, length, vec_len, sum, take, IfOk, OnOk, OnErr, Contains, nat_eq};
+ghost use Rattle.ucq_terms.specs.declared.TheConstants.{VARIABLES};
 ghost use Rattle.std.specs.List.{position_or_len};
 ghost use Rattle.ucq_terms.specs.declared.Term.TheVariants.{Constant};
 ghost use Rattle.ucq_terms.specs.Syntax.{OccursIn};
@@ -27,9 +28,23 @@ impl Model for Numbering {
 
     ghost Value = { Numbers };
 
-    ghost view = { λ n. record { constants = n.constants.items; variables = n.variables; widths = n.widths.items } };
+    ghost view = {
+        λ n.
+            record {
+                constants = n.constants.items;
+                variables = n.variables;
+                widths = n.widths.items;
+            }
+    };
 
-    ghost invariant = { λ n. IsNumbering (record { constants = n.constants.items; variables = n.variables; widths = n.widths.items }) };
+    ghost invariant = {
+        λ n.
+            IsNumbering (record {
+                constants = n.constants.items;
+                variables = n.variables;
+                widths = n.widths.items;
+            })
+    };
 }
 
 impl Numbering {
@@ -39,7 +54,7 @@ impl Numbering {
         ensures stored { IsStored query.now }
         ensures no_copies { IfOk result (λ n. n.widths ≡ []) }
         ensures few_constants { IfOk result (λ n. length n.constants ≤ 2048) }
-        ensures few_variables { IfOk result (λ n. n.variables ≤ 4096) }
+        ensures few_variables { IfOk result (λ n. n.variables ≤ VARIABLES) }
     {
         let variables = variable_bound(query.atoms());
         let mut constants = Vec::new(alloc);
@@ -55,7 +70,11 @@ impl Numbering {
     pub fn note_heads(&mut self, rule: &Rule) -> Result<(), NoMemory>
         requires { size self.old + 512 < 2 ^ 32 }
         ensures kept { (c : ℕ) → Contains self.old.constants c → Contains self.new.constants c }
-        ensures noted { OnOk result ((c : ℕ) → OccursIn rule.now.heads (Constant c) → Contains self.new.constants c) }
+        ensures noted {
+            OnOk
+                result
+                ((c : ℕ) → OccursIn rule.now.heads (Constant c) → Contains self.new.constants c)
+        }
         ensures few { length self.new.constants ≤ length self.old.constants + 512 }
         ensures rest { self.new ≡ record self.old { constants = self.new.constants } }
     {
@@ -66,7 +85,9 @@ impl Numbering {
     /// One more copy, of a rule whose variables are below the width.
     pub fn add_copy(&mut self, width: u32) -> Result<(), NoMemory>
         requires { size self.old + width < 2 ^ 32 }
-        ensures added { OnOk result (self.new ≡ record self.old { widths = self.old.widths ++ width ∷ [] }) }
+        ensures added {
+            OnOk result (self.new ≡ record self.old { widths = self.old.widths ++ width ∷ [] })
+        }
         ensures kept { OnErr result (self.new ≡ self.old) }
     {
         self.widths.push(width)?;

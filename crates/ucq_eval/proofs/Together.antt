@@ -17,7 +17,7 @@ use Rattle.ucq_terms.proofs.Texts.{Contains-slice_get}
 use Rattle.ucq_eval.specs.declared.split.Search.{Search}
 use Rattle.ucq_eval.specs.Answers.{AreFound, IsAnswer, constants}
 use Rattle.ucq_eval.specs.inner.Join.{IsCollected}
-use Rattle.ucq_eval.specs.inner.Split.{Follows, IsOf, IsMerged, tuples_in}
+use Rattle.ucq_eval.specs.inner.Split.{Follows, IsFoundBy, IsMerged, tuples_in}
 
 -- ---- lists beside lists
 
@@ -142,8 +142,8 @@ module _ (union : List Query) (facts : List Atom) where
     abbrev IsSetAt : List ℕ → Result (IndexSet (Vec ℕ) S) E → Type 0
     IsSetAt places r = IfOk r (λ (s : IndexSet (Vec ℕ) S). AreFoundAt union facts places (tuples_in s.keys))
 
-    set_of : (places : List ℕ) (u : Result Search E) (r : Result (IndexSet (Vec ℕ) S) E) → IsSearchAt places u → IfOk r (IsOf u) → IsSetAt places r
-    set_of places u r h f = IfOk-then r _ _ f (λ (found : IndexSet (Vec ℕ) S) (k : IsOf u found).
+    set_of : (places : List ℕ) (u : Result Search E) (r : Result (IndexSet (Vec ℕ) S) E) → IsSearchAt places u → IfOk r (IsFoundBy u) → IsSetAt places r
+    set_of places u r h f = IfOk-then r _ _ f (λ (found : IndexSet (Vec ℕ) S) (k : IsFoundBy u found).
         subst (λ (ks : List (Vec ℕ)). AreFoundAt union facts places (tuples_in ks)) (sym k.same) (subst (λ (x : Result Search E). IsSearchAt places x) k.was h))
 
     set_both : (xs ys : List ℕ) (a b r : Result (IndexSet (Vec ℕ) S) E) → IsSetAt xs a → IsSetAt ys b → IfOk r (IsMerged a b) → IsSetAt (xs ++ ys) r
@@ -174,7 +174,7 @@ module _ (union : List Query) (facts : List Atom) where
         (pieces : List (List ℕ)) (searches : List (Result Search E)) (sets : List (Result (IndexSet (Vec ℕ) S) E)) (r : Result (IndexSet (Vec ℕ) S) E) →
         flat_map (λ l. l) pieces ≡ range_with_len 0 (length union) →
         AllZip (λ piece u. (e : Result Search E) × IfOk e (λ (s : Search). s.found.keys ≡ []) × Folds (λ a place b. IfOk b (Follows union facts a place)) e piece u) pieces searches →
-        AllZip (λ u v. IfOk v (IsOf u)) searches sets →
+        AllZip (λ u v. IfOk v (IsFoundBy u)) searches sets →
         Reduces (λ e. IfOk e (λ (s : IndexSet (Vec ℕ) S). s.keys ≡ [])) (λ a b x. IfOk x (IsMerged a b)) sets r →
         IfOk r (λ (s : IndexSet (Vec ℕ) S). AreFound union facts (tuples_in s.keys))
     found_together pieces searches sets r whole folded shown reduced =
@@ -187,7 +187,7 @@ module _ (union : List Query) (facts : List Atom) where
         (lent_union : List Query) (lent_facts : List Atom) (pieces : List (List ℕ)) (searches : List (Result Search E)) (sets : List (Result (IndexSet (Vec ℕ) S) E)) (r : Result (IndexSet (Vec ℕ) S) E) →
         flat_map (λ l. l) pieces ≡ range_with_len 0 (length union) →
         AllZip (λ piece u. (e : Result Search E) × IfOk e (λ (s : Search). s.found.keys ≡ []) × Folds (λ a place b. IfOk b (Follows lent_union lent_facts a place)) e piece u) pieces searches →
-        AllZip (λ u v. IfOk v (IsOf u)) searches sets →
+        AllZip (λ u v. IfOk v (IsFoundBy u)) searches sets →
         Reduces (λ e. IfOk e (λ (s : IndexSet (Vec ℕ) S). s.keys ≡ [])) (λ a b x. IfOk x (IsMerged a b)) sets r →
         lent_union ≡ union →
         lent_facts ≡ facts →

@@ -65,7 +65,11 @@ impl<'n> Answers<'n> {
     /// The text of the tuple at a place.
     pub fn text(&self, place: usize) -> &[u8]
         requires { place < length self.now.tuples }
-        ensures { (tuple : List ℕ) → slice_get self.now.tuples place ≡ Some tuple → result.now ≡ tuple_text self.now.names tuple }
+        ensures {
+            (tuple : List ℕ) →
+            slice_get self.now.tuples place ≡ Some tuple →
+            result.now ≡ tuple_text self.now.names tuple
+        }
     {
         self.all[place].text.as_slice()
     }

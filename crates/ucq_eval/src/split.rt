@@ -2,7 +2,7 @@
 ghost use Rattle.std.specs.Prelude.{◌≡◌, ◌<◌, [], length, map, Contains, IfOk};
 ghost use Rattle.ucq_eval.specs.Answers.{AreAnswers, AreFound};
 ghost use Rattle.ucq_eval.specs.inner.Join.{IsGrownBy};
-ghost use Rattle.ucq_eval.specs.inner.Split.{Follows, IsOf, IsMerged};
+ghost use Rattle.ucq_eval.specs.inner.Split.{Follows, IsFoundBy, IsMerged};
 
 use crate::join::collect;
 use crate::order::in_order_split;
@@ -56,7 +56,7 @@ fn after_member(
 
 /// What the search found.
 fn found_in(search: Result<Search, NoMemory>) -> Result<IndexSet<Vec<u32>>, NoMemory>
-    ensures { IfOk result (IsOf search) }
+    ensures { IfOk result (IsFoundBy search) }
 {
     Ok(search?.found)
 }
@@ -81,7 +81,13 @@ fn put_into(
     mut held: IndexSet<Vec<u32>>,
     more: IndexSet<Vec<u32>>,
 ) -> Result<IndexSet<Vec<u32>>, NoMemory>
-    ensures { IfOk result (λ all. IsGrownBy (Contains (map (λ t. t.items) more.keys)) (map (λ t. t.items) held.keys) (map (λ t. t.items) all.keys)) }
+    ensures {
+        IfOk result (λ all.
+            IsGrownBy
+                (Contains (map (λ t. t.items) more.keys))
+                (map (λ t. t.items) held.keys)
+                (map (λ t. t.items) all.keys))
+    }
 {
     held.extend(more)?;
     Ok(held)
@@ -116,7 +122,7 @@ fn found_by_threads<R: Threads + Sync>(
         )
         .map(
             |search: Result<Search, NoMemory>| -> Result<IndexSet<Vec<u32>>, NoMemory>
-                ensures { IfOk result (IsOf search) }
+                ensures { IfOk result (IsFoundBy search) }
             { found_in(search) },
         )
         .reduce(
@@ -144,7 +150,9 @@ pub fn answers_with_texts_split<'n, R: Threads + Sync>(
     facts: &Facts,
 ) -> Result<Answers<'n>, NoMemory>
     ensures names { IfOk result (λ answers. answers.names ≡ names.now) }
-    ensures answers { IfOk result (λ answers. AreAnswers names.now union.now facts.now answers.tuples) }
+    ensures answers {
+        IfOk result (λ answers. AreAnswers names.now union.now facts.now answers.tuples)
+    }
 {
     let found = found_by_threads(rt, alloc, threads, union, facts)?;
     let all = in_order_split(rt, alloc, threads, names, found)?;

@@ -5,6 +5,7 @@
 #![tactic(auto)]
 
 ghost use Rattle.std.specs.Prelude.{◌≡◌, ◌<◌, ◌≤◌, ◌^◌, ℕ, [], length, IfOk, OnOk, OnErr};
+ghost use Rattle.ucq_terms.specs.declared.TheConstants.{FACTS};
 ghost use Rattle.ucq_terms.specs.Syntax.{HasEachOnce};
 ghost use Rattle.ucq_facts.specs.Facts.{DoesAdd, is_match, matching};
 ghost use Rattle.ucq_facts.specs.declared.postings.Postings.{Postings as PostingsValue};
@@ -34,6 +35,7 @@ pub struct Facts {
 
 impl Model for Facts {
     ghost use Rattle.std.specs.Prelude.{List, ◌≤◌, ◌^◌, length};
+    ghost use Rattle.ucq_terms.specs.declared.TheConstants.{FACTS};
     ghost use Rattle.ucq_terms.specs.Syntax.{Atom as AtomValue};
 
     ghost Value = { List AtomValue };
@@ -42,7 +44,9 @@ impl Model for Facts {
 
     ghost view = { λ f. f.atoms.keys };
 
-    ghost invariant = { λ f. (length f.atoms.keys ≤ 2 ^ 20) × IsIndexed f.atoms.keys f.by_predicate f.by_term };
+    ghost invariant = {
+        λ f. (length f.atoms.keys ≤ FACTS) × IsIndexed f.atoms.keys f.by_predicate f.by_term
+    };
 }
 
 impl Facts {
@@ -60,7 +64,7 @@ impl Facts {
     /// Adds the atom, which stands last, unless it is held already, and says whether it is new. After want of memory the
     /// facts are as before.
     pub fn add(&mut self, atom: Atom) -> Result<bool, NoMemory>
-        requires { length self.old < 2 ^ 20 }
+        requires { length self.old < FACTS }
         ensures does { IfOk result (λ added. DoesAdd self.old atom added self.new) }
         ensures err { OnErr result (self.new ≡ self.old) }
     {
@@ -81,7 +85,7 @@ impl Facts {
     /// How many facts are held.
     pub fn len(&self) -> u32
         ensures len { result ≡ length self.now }
-        ensures few { length self.now ≤ 2 ^ 20 }
+        ensures few { length self.now ≤ FACTS }
         ensures once { HasEachOnce self.now }
     {
         self.atoms.len() as u32
@@ -120,9 +124,17 @@ fn push(
     atom: &Atom,
     number: u32,
 ) -> Result<(), NoMemory>
-    ensures predicate { OnOk result (IsPushed predicate_eq by_predicate.old (predicate_of atom.now) number by_predicate.new) }
-    ensures terms { OnOk result (IsPushedBefore by_term.old atom.now (length atom.now.terms) number by_term.new) }
-    ensures predicates_kept { OnErr result (KeepsLists predicate_eq by_predicate.old by_predicate.new) }
+    ensures predicate {
+        OnOk
+            result
+            (IsPushed predicate_eq by_predicate.old (predicate_of atom.now) number by_predicate.new)
+    }
+    ensures terms {
+        OnOk result (IsPushedBefore by_term.old atom.now (length atom.now.terms) number by_term.new)
+    }
+    ensures predicates_kept {
+        OnErr result (KeepsLists predicate_eq by_predicate.old by_predicate.new)
+    }
     ensures terms_kept { OnErr result (KeepsLists position_eq by_term.old by_term.new) }
 {
     push_terms(by_term, atom, number)?;
@@ -137,7 +149,9 @@ fn push(
 
 // Puts the number last in the list of each of the atom's terms. After want of memory all lists are as before.
 fn push_terms(by_term: &mut Postings<Position>, atom: &Atom, number: u32) -> Result<(), NoMemory>
-    ensures pushed { OnOk result (IsPushedBefore by_term.old atom.now (length atom.now.terms) number by_term.new) }
+    ensures pushed {
+        OnOk result (IsPushedBefore by_term.old atom.now (length atom.now.terms) number by_term.new)
+    }
     ensures err { OnErr result (KeepsLists position_eq by_term.old by_term.new) }
 {
     for place in 0..atom.terms().len() as u32 {
@@ -155,7 +169,11 @@ fn push_terms(by_term: &mut Postings<Position>, atom: &Atom, number: u32) -> Res
 // Takes what was put last out of the lists of the atom's terms before a place.
 fn pop_terms(by_term: &mut Postings<Position>, atom: &Atom, count: u32)
     requires { count ≤ length atom.now.terms }
-    ensures { (first : PostingsValue PositionValue) (number : ℕ) → IsPushedBefore first atom.now count number by_term.old → KeepsLists position_eq first by_term.new }
+    ensures {
+        (first : PostingsValue PositionValue) (number : ℕ) →
+        IsPushedBefore first atom.now count number by_term.old →
+        KeepsLists position_eq first by_term.new
+    }
 {
     let mut place = count;
     while place > 0 {

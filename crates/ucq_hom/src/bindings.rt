@@ -25,7 +25,9 @@ impl Model for Bindings {
 
     ghost view = { λ b. record { images = b.images.items; trail = b.trail.items } };
 
-    ghost invariant = { λ b. (VARIABLES ≤ vec_capacity b.trail) × IsKept (record { images = b.images.items; trail = b.trail.items }) };
+    ghost invariant = { λ b.
+        (VARIABLES ≤ vec_capacity b.trail)
+        × IsKept (record { images = b.images.items; trail = b.trail.items }) };
 }
 
 impl Bindings {
@@ -85,7 +87,10 @@ impl Bindings {
 
     /// Frees what was bound since the mark was taken. Takes the time of what was bound.
     pub fn undo(&mut self, mark: usize)
-        ensures undone { (before : Bound) → Grown before self.old → mark ≡ length before.trail → self.new ≡ before }
+        ensures undone { (before : Bound) →
+            Grown before self.old →
+            mark ≡ length before.trail →
+            self.new ≡ before }
         ensures left { length self.new.trail ≤ mark }
         ensures kept { IsKept self.new }
     {

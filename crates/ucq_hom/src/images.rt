@@ -13,7 +13,11 @@ use ucq_terms::Atom;
 /// Whether some map that agrees with what is bound sends the atom to one of the targets. Nothing stays bound by it.
 fn has_image(bindings: &mut Bindings, atom: &Atom, targets: &[Atom]) -> bool
     requires { HasLowTerms atom.now.terms }
-    ensures none { result ≡ false → (h : ℕ → Term) → Extends h bindings.old → Contains targets.now (atom_image h atom.now) → ⊥ }
+    ensures none { result ≡ false →
+        (h : ℕ → Term) →
+        Extends h bindings.old →
+        Contains targets.now (atom_image h atom.now) →
+        ⊥ }
     ensures undone { bindings.new ≡ bindings.old }
 {
     let mark = bindings.mark();
@@ -30,7 +34,11 @@ fn has_image(bindings: &mut Bindings, atom: &Atom, targets: &[Atom]) -> bool
 /// to targets.
 pub fn have_images(bindings: &mut Bindings, atoms: &[Atom], targets: &[Atom]) -> bool
     requires { HasLowAtoms atoms.now }
-    ensures none { result ≡ false → (h : ℕ → Term) → Extends h bindings.old → IsSubset (atoms_image h atoms.now) targets.now → ⊥ }
+    ensures none { result ≡ false →
+        (h : ℕ → Term) →
+        Extends h bindings.old →
+        IsSubset (atoms_image h atoms.now) targets.now →
+        ⊥ }
     ensures undone { bindings.new ≡ bindings.old }
 {
     for atom in atoms {

@@ -1,5 +1,6 @@
 //! The order in which a search visits the atoms: next comes an atom with the most terms bound by then.
 ghost use Rattle.std.specs.Prelude.{◌≡◌, ◌<◌, ◌≤◌, ℕ, length, slice_index};
+ghost use Rattle.ucq_terms.specs.declared.TheConstants.{ATOMS};
 ghost use Rattle.ucq_hom.specs.Search.{ArePlaces, IsOrder};
 
 use ucq_terms::{Atom, Term};
@@ -48,7 +49,7 @@ fn most_bound(marks: &[bool], atoms: &[Atom], order: &[u32], at: usize, first: u
 
 /// Writes the numbers from 0 on.
 pub fn number(order: &mut [u32])
-    requires { length order.old ≤ 128 }
+    requires { length order.old ≤ ATOMS }
     ensures { (k : ℕ) → k < length order.new → slice_index order.new k ≡ k }
 {
     for i in 0..order.len() {
@@ -73,7 +74,7 @@ pub fn order_atoms(
     first: usize,
 )
     requires length { length order.old ≡ length atoms.now }
-    requires few { length atoms.now ≤ 128 }
+    requires few { length atoms.now ≤ ATOMS }
     ensures { IsOrder atoms.now order.new }
 {
     number(order);

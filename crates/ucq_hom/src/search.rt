@@ -27,7 +27,9 @@ pub fn extend(
     requires room { length levels.old ≡ VARIABLES }
     requires deep { level + length places.now ≤ ATOMS }
     ensures found { result ≡ None → IsFound bindings.old bindings.new from.now places.now (remove to.now skip) }
-    ensures blocked { (set : ℕ) → result ≡ Some set → IsBlocked bindings.old levels.old set from.now places.now (remove to.now skip) }
+    ensures blocked { (set : ℕ) →
+        result ≡ Some set →
+        IsBlocked bindings.old levels.old set from.now places.now (remove to.now skip) }
     ensures undone { IsSome result → bindings.new ≡ bindings.old }
     ensures levels { KeepsLevels bindings.old levels.old levels.new }
 {

@@ -52,7 +52,11 @@ impl Signature {
 
     /// Whether a query with this signature may cover one with the other. Most often it doesn't.
     pub fn may_cover(&self, other: &Signature) -> bool
-        ensures { result ≡ false → (a b : QueryValue) → self.now ≡ signature_of a → other.now ≡ signature_of b → ¬ Covers a b }
+        ensures { result ≡ false →
+            (a b : QueryValue) →
+            self.now ≡ signature_of a →
+            other.now ≡ signature_of b →
+            ¬ Covers a b }
     {
         is_part_of(self.first, other.first) && is_part_of(self.second, other.second)
     }

@@ -83,7 +83,8 @@ fn find(
 ) -> bool
     requires levels { length levels.old ≡ VARIABLES }
     requires order { length order.old ≡ ATOMS }
-    ensures found { result ≡ true → GivesHomomorphism bindings.new.images from.now (remove to.now skip) answers.now }
+    ensures found { result ≡ true →
+        GivesHomomorphism bindings.new.images from.now (remove to.now skip) answers.now }
     ensures none { result ≡ false → MapsInto from.now (remove to.now skip) answers.now → ⊥ }
     ensures clear { result ≡ false → IsClear bindings.new.images }
 {
@@ -178,7 +179,8 @@ pub fn may_spare(space: &mut HomSpace, query: &Query, place: u32) -> bool
 pub fn find_without(space: &mut HomSpace, query: &Query, skip: u32) -> bool
     requires { skip < length query.now.atoms }
     ensures maps { IsTrue result ↔ MapsInto query.now (remove query.now.atoms skip) query.now.answers }
-    ensures found { result ≡ true → GivesHomomorphism space.new query.now (remove query.now.atoms skip) query.now.answers }
+    ensures found { result ≡ true →
+        GivesHomomorphism space.new query.now (remove query.now.atoms skip) query.now.answers }
     ensures clear { result ≡ false → IsClear space.new }
 {
     has_other_image(

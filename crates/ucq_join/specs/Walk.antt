@@ -64,10 +64,10 @@ pub record GoesOn (before after : Walk) (j : Named) : Type 0 where
   pub stands : after ≡ record before { present = j.members }
 
 -- one step of a walk, which stands where it stood at the end and after want of memory
-abbrev pub IsStep : Walk → Walk → Result (Option Named) NoMemory → Type 0
-IsStep before after (Ok None) = IsLast before × (after ≡ before)
-IsStep before after (Ok (Some j)) = GoesOn before after j
-IsStep before after (Err e) = after ≡ before
+abbrev pub Advances : Walk → Walk → Result (Option Named) NoMemory → Type 0
+Advances before after (Ok None) = IsLast before × (after ≡ before)
+Advances before after (Ok (Some j)) = GoesOn before after j
+Advances before after (Err e) = after ≡ before
 
 -- the walk has given these sets, in this order: just the ones that don't come after the present one, each once
 pub record HasGiven (w : Walk) (given : List (List ℕ)) : Type 0 where

@@ -1,6 +1,6 @@
 //! The walk through the sets of pieces that make aggregates.
 ghost use Rattle.std.specs.Prelude.{◌≡◌, [], IfOk};
-ghost use Rattle.ucq_join.specs.Walk.{ArePieces, IsStep};
+ghost use Rattle.ucq_join.specs.Walk.{ArePieces, Advances};
 
 use crate::copies::{numbering, rule_width, set_copies};
 use crate::joined::{Joined, named};
@@ -27,9 +27,22 @@ impl<'p> Model for Joins<'p> {
 
     ghost Value = { Walk };
 
-    ghost view = { λ w. record { query = w.query.now; rule = w.rule.now; pieces = w.pieces.now; present = w.present.items } };
+    ghost view = {
+        λ w.
+            record {
+                query = w.query.now;
+                rule = w.rule.now;
+                pieces = w.pieces.now;
+                present = w.present.items;
+            }
+    };
 
-    ghost invariant = { λ w. IsWalking (record { query = w.query.now; rule = w.rule.now; pieces = w.pieces.now; present = w.present.items }) w.numbering w.width };
+    ghost invariant = {
+        λ w.
+            IsWalking
+                (record { query = w.query.now; rule = w.rule.now; pieces = w.pieces.now; present = w.present.items })
+                w.numbering w.width
+    };
 }
 
 impl<'p> Joins<'p> {
@@ -41,7 +54,16 @@ impl<'p> Joins<'p> {
         pieces: &'p [Piece],
     ) -> Result<Joins<'p>, NoMemory>
         requires { ArePieces query.now rule.now pieces.now }
-        ensures { IfOk result (λ w. w ≡ record { query = query.now; rule = rule.now; pieces = pieces.now; present = [] }) }
+        ensures {
+            IfOk result (λ w.
+                w ≡
+                    record {
+                        query = query.now;
+                        rule = rule.now;
+                        pieces = pieces.now;
+                        present = [];
+                    })
+        }
     {
         Ok(Joins {
             query,
@@ -56,7 +78,7 @@ impl<'p> Joins<'p> {
     /// The next set of pieces that make an aggregate, or `None` after the last. So a walk from its start gives each of them
     /// once. It takes memory for one set at a time.
     pub fn next(&mut self) -> Result<Option<Joined>, NoMemory>
-        ensures { IsStep self.old self.new result }
+        ensures { Advances self.old self.new result }
     {
         let mut members = self.present.clone()?;
         let copies = members.len() as u32 + 1;

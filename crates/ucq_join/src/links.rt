@@ -1,5 +1,6 @@
 //! The classes of terms that the members of a set of pieces join.
 ghost use Rattle.std.specs.Prelude.{◌≡◌, ◌<◌, ◌≤◌, ◌++◌, ℕ, List, [], length, Contains, slice_index_or};
+ghost use Rattle.ucq_terms.specs.declared.TheConstants.{ATOMS};
 ghost use Rattle.ucq_terms.specs.Unifier.{Node, links};
 ghost use Rattle.ucq_classes.specs.Numbers.{NumbersQuery, NumbersHeads};
 ghost use Rattle.ucq_classes.specs.Classes.{IsClassed};
@@ -15,7 +16,11 @@ pub fn link_piece(classes: &mut Classes, query: &Query, rule: &Rule, copy: u32, 
     requires heads { NumbersHeads classes.old.numbers copy rule.now }
     requires keeps { KeepsEach query.now rule.now piece.now }
     ensures numbers { classes.new.numbers ≡ classes.old.numbers }
-    ensures linked { (before : List (Node × Node)) → IsClassed before classes.old → IsClassed (before ++ links query.now copy rule.now piece.now) classes.new }
+    ensures linked {
+        (before : List (Node × Node)) →
+        IsClassed before classes.old →
+        IsClassed (before ++ links query.now copy rule.now piece.now) classes.new
+    }
 {
     let atoms = query.atoms();
     let heads = rule.heads();
@@ -43,10 +48,12 @@ pub fn link_members(
     members: &[usize],
 )
     requires numbered { AreNumbered query.now rule.now classes.old.numbers }
-    requires few { length members.now ≤ 128 }
+    requires few { length members.now ≤ ATOMS }
     requires room { length members.now ≤ length classes.old.numbers.widths }
     requires within { (place : ℕ) → Contains members.now place → place < length pieces.now }
-    requires keeps { (piece : List (ℕ × ℕ)) → Contains pieces.now piece → KeepsEach query.now rule.now piece }
+    requires keeps {
+        (piece : List (ℕ × ℕ)) → Contains pieces.now piece → KeepsEach query.now rule.now piece
+    }
     ensures numbers { classes.new.numbers ≡ classes.old.numbers }
     ensures linked { IsClassed (links_at query.now rule.now pieces.now members.now) classes.new }
 {

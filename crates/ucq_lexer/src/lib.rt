@@ -70,7 +70,7 @@ pub struct Token {
 
 /// The longest token at the place.
 fn token_at(text: &[u8], place: usize) -> Option<Token>
-    requires length { length text.now ≤ 2 ^ 26 }
+    requires length { length text.now ≤ BYTES }
     requires inside { place ≤ length text.now }
     ensures found { IfSome result (λ token. IsTokenAt text.now place token) }
     ensures none { IfNone result ((kind : Kind) (count : ℕ) → Begins (drop place text.now) kind count → ⊥) }
@@ -91,7 +91,7 @@ fn token_at(text: &[u8], place: usize) -> Option<Token>
 /// The tokens of a text of at most `BYTES` bytes, in order, each the longest of its place; or the first byte at which no
 /// token, white space or comment begins. Linear in the text.
 pub fn tokens(alloc: Global, text: &[u8]) -> Result<Vec<Token>, LexFault>
-    requires { length text.now ≤ 2 ^ 26 }
+    requires { length text.now ≤ BYTES }
     ensures found { IfOk result (λ tokens. Spells text.now tokens.items) }
     ensures fault { IfErr result (λ fault. IsFault text.now fault) }
 {

@@ -9,12 +9,12 @@ use Rattle.ucq_log.specs.declared.Seen.{Seen}
 use Rattle.ucq_log.specs.declared.Seen.TheVariants as answer
 
 -- the entry is of this log
-abbrev pub IsOf : Log → Entry → Type 0
-IsOf log entry = entry.mark.name ≡ id_at log.buckets entry.mark.part
+abbrev pub IsEntryOf : Log → Entry → Type 0
+IsEntryOf log entry = entry.mark.name ≡ id_at log.buckets entry.mark.part
 
 -- the entry is of this log, and gives this row and this query
 pub record Holds (log : Log) (row : ℕ) (q : Query) (entry : Entry) : Type 0 where
-  pub of_log : IsOf log entry
+  pub of_log : IsEntryOf log entry
   pub same_row : entry.row ≡ row
   pub same_query : entry.query ≡ q
 
@@ -43,7 +43,7 @@ IsCoverIn entries q (Some place) = IsFirstCover entries q place
 
 -- the entry is of this log, and its query covers the given one
 pub record IsCover (log : Log) (q : Query) (entry : Entry) : Type 0 where
-  pub of_log : IsOf log entry
+  pub of_log : IsEntryOf log entry
   pub covers : Covers entry.query q
 
 -- The first of the caller's own entries that covers the query; or, where none of these does, another entry of the log that

@@ -5,10 +5,11 @@
 #![tactic(auto)]
 
 ghost use Rattle.std.specs.Prelude.{◌≡◌, ◌≤◌, ◌↔◌, All, length, IfOk, IfErr, IfSome, IsTrue};
+ghost use Rattle.ucq_terms.specs.declared.TheConstants.{ROWS};
 ghost use Rattle.ucq_terms.specs.Homomorphism.{Covers};
 ghost use Rattle.ucq_hom.specs.Space.{IsClear};
 ghost use Rattle.ucq_hom.specs.Signature.{signature_of};
-ghost use Rattle.ucq_log.specs.Log.{IsOf, Holds, IsCover, IsCoverIn, IsSeen};
+ghost use Rattle.ucq_log.specs.Log.{IsEntryOf, Holds, IsCover, IsCoverIn, IsSeen};
 
 pub mod laws;
 mod notes;
@@ -54,7 +55,15 @@ impl Model for Entry {
 
     ghost Value = { Placed };
 
-    ghost view = { λ e. record { place = e.pushed.index; row = e.pushed.value.row; query = e.pushed.value.query; mark = record { part = e.pushed.bucket; name = e.pushed.row } } };
+    ghost view = {
+        λ e.
+            record {
+                place = e.pushed.index;
+                row = e.pushed.value.row;
+                query = e.pushed.value.query;
+                mark = record { part = e.pushed.bucket; name = e.pushed.row };
+            }
+    };
 
     ghost invariant = { λ e. e.signature ≡ signature_of e.pushed.value.query };
 }
@@ -99,7 +108,7 @@ impl Log {
 
     /// The row that was added, whatever was added since.
     pub fn row(&self, entry: &Entry) -> u32
-        requires { IsOf self.now entry.now }
+        requires { IsEntryOf self.now entry.now }
         ensures { result ≡ entry.now.row }
     {
         self.vec.value(&entry.pushed).row()
@@ -107,7 +116,7 @@ impl Log {
 
     /// The query that was added, whatever was added since.
     pub fn value(&self, entry: &Entry) -> &Query
-        requires { IsOf self.now entry.now }
+        requires { IsEntryOf self.now entry.now }
         ensures { result.now ≡ entry.now.query }
     {
         self.vec.value(&entry.pushed).query()
@@ -117,8 +126,8 @@ impl Log {
     /// log, in order, and then among the newest of the log, from the last one back. `None` says that none of the own ones
     /// covers it; another one may have been missed. Takes no memory, and searches up to one homomorphism for each entry.
     pub fn seen(&self, space: &mut HomSpace, own: &[Entry], query: &Query) -> Option<Seen>
-        requires few { length own.now ≤ 65536 }
-        requires ours { All (λ e. IsOf self.now e) own.now }
+        requires few { length own.now ≤ ROWS }
+        requires ours { All (λ e. IsEntryOf self.now e) own.now }
         ensures seen { IsSeen self.now own.now query.now result }
         ensures clear { IsClear space.new }
     {
@@ -141,8 +150,8 @@ impl Log {
         query: &Query,
         signature: &Signature,
     ) -> Option<u32>
-        requires few { length entries.now ≤ 65536 }
-        requires ours { All (λ e. IsOf self.now e) entries.now }
+        requires few { length entries.now ≤ ROWS }
+        requires ours { All (λ e. IsEntryOf self.now e) entries.now }
         requires signature { signature.now ≡ signature_of query.now }
         requires clear { IsClear space.old }
         ensures cover { IsCoverIn entries.now query.now result }
@@ -164,7 +173,7 @@ impl Log {
         query: &Query,
         signature: &Signature,
     ) -> bool
-        requires ours { IsOf self.now entry.now }
+        requires ours { IsEntryOf self.now entry.now }
         requires signature { signature.now ≡ signature_of query.now }
         requires clear { IsClear space.old }
         ensures covers { IsTrue result ↔ Covers entry.now.query query.now }

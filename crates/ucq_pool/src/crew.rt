@@ -1,6 +1,7 @@
 //! Rounds of workers, one for each level.
 ghost use Rattle.std.specs.Prelude.{◌≡◌, ◌+◌, ◌<◌, ◌≤◌, ◌⊎◌, All, IfOk, length, vec_len};
-ghost use Rattle.ucq_board.specs.Values.{IsOf};
+ghost use Rattle.ucq_terms.specs.declared.TheConstants.{ROWS};
+ghost use Rattle.ucq_board.specs.Values.{IsSeatOf};
 ghost use Rattle.ucq_hom.specs.Space.{IsClear};
 ghost use Rattle.ucq_store.specs.Store.{IsCut, IsFinished};
 ghost use Rattle.ucq_store.specs.Laws.{IsEnough};
@@ -78,7 +79,7 @@ pub fn rounds<'p, R: Threads + Wait + Sync, G: Gate + Sync>(
     gate: &G,
 ) -> Result<Store<'p>, NoMemory>
     requires some { 0 < budget }
-    requires small { budget ≤ 65536 }
+    requires small { budget ≤ ROWS }
     requires one { 0 < workers }
     requires few { workers ≤ 64 }
     ensures done { IfOk result (λ s. IsFinished s ⊎ IsCut s) }
@@ -99,7 +100,7 @@ pub fn rounds_noted<'p, R: Threads + Wait + Sync, G: Gate + Sync>(
     gate: &G,
 ) -> Result<(Store<'p>, Note), NoMemory>
     requires some { 0 < budget }
-    requires small { budget ≤ 65536 }
+    requires small { budget ≤ ROWS }
     requires one { 0 < workers }
     requires few { workers ≤ 64 }
     ensures done { IfOk result (λ r. IsFinished r.0 ⊎ IsCut r.0) }
@@ -137,7 +138,7 @@ fn explore_level<'p, 'l, R: Threads + Wait + Sync, G: Gate + Sync>(
 ) -> Result<Stage<'p>, NoMemory>
     requires problem { store.problem ≡ problem.now }
     requires some { 0 < store.budget }
-    requires small { store.budget ≤ 65536 }
+    requires small { store.budget ≤ ROWS }
     requires clear { IsClear space.old }
     ensures stage { IfOk result (IsStage problem.now store.entry.budget) }
     ensures clear { IsClear space.new }
@@ -173,8 +174,8 @@ fn note_of(crew: &Crew) -> Note {
 
 /// Claims all open rows, and gives the claims.
 fn claim_open(alloc: Global, store: &mut Store) -> Result<Vec<Claim>, NoMemory>
-    requires { store.old.budget ≤ 65536 }
-    ensures few { IfOk result (λ claims. vec_len claims ≤ 65536) }
+    requires { store.old.budget ≤ ROWS }
+    ensures few { IfOk result (λ claims. vec_len claims ≤ ROWS) }
     ensures task { IfOk result (λ _. (store.new.problem ≡ store.old.problem) × (store.new.budget ≡ store.old.budget)) }
 {
     let mut claims = Vec::new(alloc);
@@ -201,7 +202,7 @@ fn round<'p, 'l, T: Task + Send + Sync, R: Threads + Wait + Sync, G: Gate + Sync
     requires of_task { problem.now ≡ T.problem }
     requires problem { store.problem ≡ T.problem }
     requires budget { store.budget ≡ T.budget }
-    requires claims { length claims.now ≤ 65536 }
+    requires claims { length claims.now ≤ ROWS }
     ensures problem { IfOk result (λ r. r.store.problem ≡ T.problem) }
     ensures budget { IfOk result (λ r. r.store.budget ≡ T.budget) }
 {
@@ -267,11 +268,11 @@ fn seat_team<'l>(
     workers: &mut Vec<Worker<'l>>,
     team: usize,
 ) -> Result<Vec<Job<'l>>, NoMemory>
-    requires board { IsOf board.now first.old }
+    requires board { IsSeatOf board.now first.old }
     requires spare { team ≤ first.old.view.spare }
     ensures jobs { IfOk result (λ jobs. All (λ job. IsAtWork board.now job.seat) jobs.items) }
     ensures count { IfOk result (λ jobs. first.new.view.spare + vec_len jobs ≡ first.old.view.spare) }
-    ensures first { IsOf board.now first.new }
+    ensures first { IsSeatOf board.now first.new }
 {
     let mut jobs = Vec::with_capacity(alloc, team)?;
     for _ in 0..team {
@@ -291,10 +292,10 @@ fn rise_all<'l>(
     workers: &mut Vec<Worker<'l>>,
     jobs: Vec<Job<'l>>,
 ) -> Result<bool, NoMemory>
-    requires board { IsOf board.now first.old }
+    requires board { IsSeatOf board.now first.old }
     requires jobs { All (λ job. IsAtWork board.now job.seat) jobs.items }
     ensures count { IfOk result (λ _. first.new.view.spare ≡ first.old.view.spare + vec_len jobs.entry) }
-    ensures first { IsOf board.now first.new }
+    ensures first { IsSeatOf board.now first.new }
 {
     let mut is_wanting = false;
     for job in jobs {
@@ -316,7 +317,7 @@ fn after_round<'p>(
 ) -> Result<Stage<'p>, NoMemory>
     requires problem { rested.store.problem ≡ problem.now }
     requires some { 0 < rested.store.budget }
-    requires small { rested.store.budget ≤ 65536 }
+    requires small { rested.store.budget ≤ ROWS }
     requires clear { IsClear space.old }
     ensures stage { IfOk result (IsStage problem.now rested.entry.store.budget) }
     ensures clear { IsClear space.new }

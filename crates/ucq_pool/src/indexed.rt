@@ -1,5 +1,6 @@
 //! A problem whose rules are found by the names in their heads.
 ghost use Rattle.std.specs.Prelude.{◌≤◌, ◌<◌, ◌≡◌, OnOk, IfOk, length};
+ghost use Rattle.ucq_terms.specs.declared.TheConstants.{RULES};
 ghost use Rattle.ucq_pool.specs.ByHead.{list_of, IsListed, AreListedBelow, AreListedBefore, AreRelevant};
 
 use indexmap::IndexMap;
@@ -59,7 +60,7 @@ impl<'p> IndexedProblem<'p> {
 
 // The numbers of the rules by the names in their heads.
 fn listed_heads(alloc: Global, rules: &[Rule]) -> Result<IndexMap<u32, Vec<u32>>, NoMemory>
-    requires { length rules.now ≤ 4096 }
+    requires { length rules.now ≤ RULES }
     ensures { IfOk result (AreListedBelow rules.now (length rules.now)) }
 {
     let mut lists = IndexMap::new(alloc);

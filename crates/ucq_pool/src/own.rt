@@ -1,7 +1,8 @@
 //! What a worker knows of the log.
 ghost use Rattle.std.specs.Prelude.{◌≡◌, IfSome};
+ghost use Rattle.ucq_terms.specs.declared.TheConstants.{ROWS};
 ghost use Rattle.ucq_hom.specs.Space.{IsClear};
-ghost use Rattle.ucq_log.specs.Log.{IsOf};
+ghost use Rattle.ucq_log.specs.Log.{IsEntryOf};
 ghost use Rattle.ucq_store.specs.Candidates.{HoldsCore};
 ghost use Rattle.ucq_terms.specs.Homomorphism.{Covers};
 
@@ -26,14 +27,15 @@ pub(crate) struct Own<'l> {
 
 impl<'l> Model for Own<'l> {
     ghost use Rattle.std.specs.Prelude.{◌≤◌, All, List, length};
-    ghost use Rattle.ucq_log.specs.Log.{IsOf};
+    ghost use Rattle.ucq_terms.specs.declared.TheConstants.{ROWS};
+    ghost use Rattle.ucq_log.specs.Log.{IsEntryOf};
     ghost use Rattle.ucq_log.specs.Notes.{Placed};
 
     ghost Value = { List Placed };
 
     ghost view = { λ o. o.entries.items };
 
-    ghost invariant = { λ o. All (λ e. IsOf o.log.now e) o.entries.items × (length o.entries.items ≤ 65536) };
+    ghost invariant = { λ o. All (λ e. IsEntryOf o.log.now e) o.entries.items × (length o.entries.items ≤ ROWS) };
 }
 
 impl<'l> Own<'l> {
@@ -86,7 +88,7 @@ impl<'l> Own<'l> {
 
 /// The row and the query of an entry.
 fn told<'l>(log: &'l Log, entry: &Entry) -> (u32, &'l Query)
-    requires { IsOf log.now entry.now }
+    requires { IsEntryOf log.now entry.now }
     ensures { (result.0 ≡ entry.now.row) × (result.1.now ≡ entry.now.query) }
 {
     (log.row(entry), log.value(entry))

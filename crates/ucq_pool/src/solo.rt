@@ -1,5 +1,6 @@
 //! The rewriting on one thread.
 ghost use Rattle.std.specs.Prelude.{◌≡◌, ◌<◌, ◌≤◌, ◌⊎◌, IfOk, None};
+ghost use Rattle.ucq_terms.specs.declared.TheConstants.{ROWS};
 ghost use Rattle.ucq_hom.specs.Space.{IsClear};
 ghost use Rattle.ucq_store.specs.Store.{IsRow, IsCut, IsFinished};
 ghost use Rattle.ucq_store.specs.Calls.{IsClaimed};
@@ -23,7 +24,7 @@ pub fn alone<'p>(
     budget: u32,
 ) -> Result<Store<'p>, NoMemory>
     requires some { 0 < budget }
-    requires small { budget ≤ 65536 }
+    requires small { budget ≤ ROWS }
     ensures done { IfOk result (λ s. IsFinished s ⊎ IsCut s) }
     ensures problem { IfOk result (λ s. (s.problem ≡ problem.now) × (s.budget ≡ budget)) }
     ensures enough { IfOk result (λ s. IsEnough problem.now budget → IsFinished s) }

@@ -9,7 +9,7 @@ use Rattle.std.proofs.lemmas.Str.Parse.{digit_at}
 use Rattle.std.proofs.lemmas.Fmt.{decimal_is_IsNumeral, decimal_injective}
 use Rattle.ucq_lexer.specs.Bytes.{is_small, is_letter, is_digit, is_sign, is_word_byte, is_local_start, is_tag_byte, is_iri_byte}
 use Rattle.ucq_lexer.specs.Spelling.{StartsRun, IsEnclosed, IsIri, IsInteger, IsUnits, IsText, IsTail, IsWord, IsPrefixed}
-use Rattle.ucq_lexer.specs.Front.{closing_size}
+use Rattle.ucq_lexer.specs.inner.Front.{closing_size}
 use Rattle.ucq_lexer.proofs.Runs.{closing_units}
 use Rattle.ucq_print.specs.Laws.{IsNameText}
 

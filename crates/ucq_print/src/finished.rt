@@ -1,5 +1,6 @@
 //! What the finished text says of the live rows of a rewriting.
 ghost use Rattle.std.specs.Prelude.{◌≡◌, ◌≤◌, length, IfOk};
+ghost use Rattle.ucq_terms.specs.declared.TheConstants.{ROWS};
 ghost use Rattle.ucq_antichain.specs.Rows.{live_queries};
 ghost use Rattle.ucq_print.specs.Texts.{count_line};
 
@@ -11,7 +12,7 @@ use ucq_terms::NoMemory;
 /// How many of the rows are live.
 pub fn live_count<R: Rows>(rows: &R) -> u32
     ensures live { result ≡ length (live_queries (R.value rows.now).rows) }
-    ensures few { result ≤ 65536 }
+    ensures few { result ≤ ROWS }
 {
     let mut count: u32 = 0;
     for row in 0..rows.count() {

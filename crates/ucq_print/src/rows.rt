@@ -1,5 +1,6 @@
 //! The rows of a rewriting, as they are printed.
 ghost use Rattle.std.specs.Prelude.{◌≡◌, ◌<◌, ◌≤◌, length, MatchOption, Some, None};
+ghost use Rattle.ucq_terms.specs.declared.TheConstants.{ROWS};
 ghost use Rattle.ucq_antichain.specs.Rows.{query_at, row_at};
 ghost use Rattle.ucq_print.specs.Rows.{RowsValue};
 
@@ -14,7 +15,7 @@ pub trait Rows {
     /// How many rows there are, live and dead. No budget is above 65,536.
     fn count(&self) -> u32
         ensures rows { result ≡ length (value self.now).rows }
-        ensures few { result ≤ 65536 };
+        ensures few { result ≤ ROWS };
 
     /// The query of a row.
     fn query_at(&self, row: u32) -> &Query
@@ -32,7 +33,10 @@ pub trait Rows {
 
     /// The cut, if it is cut.
     fn why_cut(&self) -> Option<&Cut>
-        ensures { MatchOption result ((value self.now).cut ≡ None) (λ cut. (value self.now).cut ≡ Some cut.now) };
+        ensures {
+            MatchOption result ((value self.now).cut ≡ None) (λ cut.
+                (value self.now).cut ≡ Some cut.now)
+        };
 }
 
 impl<'p> Rows for Store<'p> {

@@ -21,7 +21,7 @@ use Rattle.ucq_reader.specs.Input.{terms_in, term_value, atom_value, rule_value,
 use Rattle.ucq_reader.specs.Gathered.{GatheredValue, AreFactsOf, IsFirstQuery}
 use Rattle.ucq_reader.specs.Building.{with_names, IsNumberOf, IsSafeQuery, AddsFact, AddsRule, AddsQuery}
 use Rattle.ucq_reader.specs.Made.{numbered, x, y, unary, binary, chain_rule, last_rule, made_query, pair_fact, last_fact, made_rules, made_facts, made, rule_texts, query_texts, fact_texts}
-use Rattle.ucq_reader.specs.Making.{place, IsMadeAtom, AreMadeAtoms, all_texts, IsMadeOf, HasChain, HasRules, HasPairs, HasFacts}
+use Rattle.ucq_reader.specs.inner.Making.{place, IsMadeAtom, AreMadeAtoms, all_texts, IsMadeOf, HasChain, HasRules, HasPairs, HasFacts}
 use Rattle.ucq_reader.proofs.Built.{number_lasts}
 use Rattle.ucq_reader.proofs.Renumbering.{rule-again, query-again}
 use Rattle.ucq_reader.proofs.Sentences.{safe_values}

@@ -14,7 +14,7 @@ use Rattle.ucq_reader.specs.Statement.{Word, Statement, spelling}
 use Rattle.ucq_reader.specs.Machine.{begin, outcome, complete}
 use Rattle.ucq_reader.specs.File.{Reads, AreStatements, IsBadStatement, IsOpenEnd}
 use Rattle.ucq_reader.specs.View.{word_at, statement_view}
-use Rattle.ucq_reader.specs.Ending.{words_from, IsEnding}
+use Rattle.ucq_reader.specs.inner.Ending.{words_from, IsEnding}
 use Rattle.ucq_reader.specs.Input.{words, starts}
 use Rattle.ucq_reader.proofs.Reading.{spelling_nonempty}
 use Rattle.ucq_reader.proofs.Outcomes.{complete_is, reads_more, bad_is, open_is}

@@ -14,7 +14,7 @@ use Rattle.ucq_lexer.specs.declared.Token.{Token}
 use Rattle.ucq_reader.specs.Statement.{closing, if_sign, dot, Several, TermSyntax, AtomSyntax, a_fact, a_rule, a_query, a_constraint, Sentence, Statement, a_section, a_prefix, a_base, a_top, a_sentence, spelling, label_words, sentence_words, answers_words, more_terms, terms_words, atom_words, more_atoms, atoms_words}
 use Rattle.ucq_reader.specs.Meaning.{listed, arity, answer_terms, written_atoms, written_answers, limited_atoms, first_above}
 use Rattle.ucq_reader.specs.View.{atoms_view, statement_view, word_at}
-use Rattle.ucq_reader.specs.Placing.{IsSpelled}
+use Rattle.ucq_reader.specs.inner.Placing.{IsSpelled}
 
 -- ---- numbers that are at most this
 

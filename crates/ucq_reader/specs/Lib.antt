@@ -5,11 +5,8 @@ pub mod Names
 pub mod Meaning
 pub mod Input
 pub mod View
-pub mod Ending
-pub mod Parse
 pub mod Gathered
 pub mod Outcome
-pub mod Placing
 pub mod Building
 pub mod Made
-pub mod Making
+pub mod inner

@@ -1,5 +1,6 @@
 -- What statements stand for, in texts, and the first refusal.
 use Rattle.std.specs.Prelude.{ℕ, ◌+◌, Bool, false, not, nat_lt, List, [], ◌∷◌, ◌++◌, map, length, take, drop, zip, Option, Some, None, Result, Ok, Err, ◌^◌}
+use Rattle.ucq_terms.specs.declared.TheConstants.{FACTS, RULES}
 use Rattle.std.specs.List.{list_any, find, filter_map, flat_map, enumerate_from}
 use Rattle.std.specs.Str.{bytes_eq}
 use Rattle.ucq_reader.specs.declared.ReadFault.{ReadFault}
@@ -233,8 +234,8 @@ files_fault file (f ∷ rest) = first_of (file_fault file f ∷ files_fault (fil
 -- too many rules, or else too many facts
 abbrev pub count_fault : List Placed → Option ReadFault
 count_fault all = first_of (
-    mapped (TooMany wholes.Rules) (first_above 4096 (length (filter_map rule_of all) ∷ []))
-    ∷ mapped (TooMany wholes.Facts) (first_above (2 ^ 20) (length (flat_map (λ atoms. atoms) (filter_map fact_of all)) ∷ []))
+    mapped (TooMany wholes.Rules) (first_above RULES (length (filter_map rule_of all) ∷ []))
+    ∷ mapped (TooMany wholes.Facts) (first_above FACTS (length (flat_map (λ atoms. atoms) (filter_map fact_of all)) ∷ []))
     ∷ [])
 
 -- a statement that is a query, with its file and number

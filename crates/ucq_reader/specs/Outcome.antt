@@ -22,8 +22,8 @@ OrMemory P fault = P fault
 -- ---- statements
 
 -- these statements have been taken
-abbrev pub IsTaken : List Placed → GatheredValue → GatheredValue → Type 0
-IsTaken more old new = (all : List Placed) → IsGathered all old → IsGathered (all ++ more) new
+abbrev pub AreTakenUp : List Placed → GatheredValue → GatheredValue → Type 0
+AreTakenUp more old new = (all : List Placed) → IsGathered all old → IsGathered (all ++ more) new
 
 -- at most so many names have come, and so many unknown values
 pub record IsGrown (old new : GatheredValue) (count : ℕ) : Type 0 where
@@ -33,7 +33,7 @@ pub record IsGrown (old new : GatheredValue) (count : ℕ) : Type 0 where
 -- The statement has no refusal of its own and has been taken, with so many tokens, and these are the prefix lines up to it.
 pub record IsAdmitted (text : List ℕ) (p : Placed) (count : ℕ) (before after : List Declaration) (old new : GatheredValue) : Type 0 where
   pub clear : statement_fault p ≡ None
-  pub taken : IsTaken (p ∷ []) old new
+  pub taken : AreTakenUp (p ∷ []) old new
   pub grown : IsGrown old new count
   pub declared : declared_view text after ≡ declare (declared_view text before) p.statement
 
@@ -63,7 +63,7 @@ pub record IsFileTaken (file : ℕ) (text : List ℕ) (old new : GatheredValue) 
   pub places : List ℕ
   pub read : IsRead file text (parsed statements places)
   pub clear : file_fault file (parsed statements places) ≡ None
-  pub taken : IsTaken (placed_from file 0 places [] statements) old new
+  pub taken : AreTakenUp (placed_from file 0 places [] statements) old new
   pub grown : IsGrown old new (length text)
   pub few : word_count (placed_from file 0 places [] statements) ≤ length text
 

@@ -128,9 +128,9 @@ stage_view text (stages.TermWanted l part before name terms) = term_wanted (labe
 stage_view text (stages.AtomGiven l part before atom) = atom_given (label_view text l) (part_view text part) (map (atom_view text) before.items) (atom_view text atom)
 
 -- what the code answers is what the step gives
-abbrev pub IsStep : List ℕ → State → Token → Step → Type 0
-IsStep text old token (steps.Next stage) = step old (word_at text token) ≡ Some (stage_view text stage)
-IsStep text old token (steps.Stops stage) = (step old (word_at text token) ≡ None) × (stage_view text stage ≡ old)
+abbrev pub IsStageStep : List ℕ → State → Token → Step → Type 0
+IsStageStep text old token (steps.Next stage) = step old (word_at text token) ≡ Some (stage_view text stage)
+IsStageStep text old token (steps.Stops stage) = (step old (word_at text token) ≡ None) × (stage_view text stage ≡ old)
 
 abbrev pub next_view : List ℕ → Option Stage → Option State
 next_view text None = None

@@ -42,7 +42,10 @@ fn spell(
     declarations: &[Declaration],
     token: Token,
 ) -> Result<(), AllocError>
-    ensures { OnOk result (spelled.new.items ≡ expanded (declared_view text.now declarations.now) (bytes_of text.now token)) }
+    ensures { OnOk
+        result
+        (spelled.new.items ≡
+        expanded (declared_view text.now declarations.now) (bytes_of text.now token)) }
 {
     let bytes = slice_of(text, token);
     let (prefix, local) = split_prefixed(bytes);
@@ -93,8 +96,20 @@ impl Numbers {
         token: Token,
     ) -> Result<u32, ReadFault>
         requires { HasRoom self.old 1 }
-        ensures numbered { OnOk result (HasNumbered self.old self.new (constant (name_text (declared_view text.now declarations.now) (name_view text.now token)) ∷ [])) }
-        ensures number { IfOk result (λ n. IsNumberOf self.new.names (name_text (declared_view text.now declarations.now) (name_view text.now token)) n) }
+        ensures numbered { OnOk
+            result
+            (HasNumbered
+            self.old
+            self.new
+            (constant
+            (name_text
+            (declared_view text.now declarations.now)
+            (name_view text.now token))
+            ∷ [])) }
+        ensures number { IfOk result (λ n.
+            IsNumberOf self.new.names
+            (name_text (declared_view text.now declarations.now) (name_view text.now token))
+            n) }
         ensures err { IfErr result (λ e. e ≡ Memory) }
     {
         match token.kind {
@@ -114,7 +129,9 @@ impl Numbers {
         token: Token,
     ) -> Result<Term, ReadFault>
         requires { HasRoom self.old 1 }
-        ensures numbered { OnOk result (HasNumbered self.old self.new (token_symbol text.now declarations.now token ∷ [])) }
+        ensures numbered { OnOk
+            result
+            (HasNumbered self.old self.new (token_symbol text.now declarations.now token ∷ [])) }
         ensures term { IfOk result (λ t. IsTermOf self.new (token_symbol text.now declarations.now token) t) }
         ensures err { IfErr result (λ e. e ≡ Memory) }
     {
@@ -139,8 +156,16 @@ impl Numbers {
         built: &mut Vec<Term>,
     ) -> Result<(), ReadFault>
         requires { HasRoom self.old (length tokens.now) }
-        ensures numbered { OnOk result (HasNumbered self.old self.new (map (token_symbol text.now declarations.now) tokens.now)) }
-        ensures terms { OnOk result (AddsTerms self.new (map (token_symbol text.now declarations.now) tokens.now) built.old.items built.new.items) }
+        ensures numbered { OnOk
+            result
+            (HasNumbered
+            self.old
+            self.new
+            (map (token_symbol text.now declarations.now) tokens.now)) }
+        ensures terms { OnOk
+            result
+            (AddsTerms self.new (map (token_symbol text.now declarations.now) tokens.now)
+            built.old.items built.new.items) }
         ensures err { IfErr result (λ e. e ≡ Memory) }
     {
         for token in tokens {
@@ -160,7 +185,12 @@ impl Numbers {
     ) -> Result<Atom, ReadFault>
         requires few { HasFewTerms form.now }
         requires room { HasRoom self.old (length (atom_symbols (form_atom text.now declarations.now form.now))) }
-        ensures numbered { OnOk result (HasNumbered self.old self.new (atom_symbols (form_atom text.now declarations.now form.now))) }
+        ensures numbered { OnOk
+            result
+            (HasNumbered
+            self.old
+            self.new
+            (atom_symbols (form_atom text.now declarations.now form.now))) }
         ensures atom { IfOk result (λ a. IsAtomOf self.new (form_atom text.now declarations.now form.now) a) }
         ensures err { IfErr result (λ e. e ≡ Memory) }
     {
@@ -182,9 +212,19 @@ impl Numbers {
         built: &mut Vec<Atom>,
     ) -> Result<(), ReadFault>
         requires few { All HasFewTerms forms.now }
-        requires room { HasRoom self.old (length (symbols_in (map (form_atom text.now declarations.now) forms.now))) }
-        ensures numbered { OnOk result (HasNumbered self.old self.new (symbols_in (map (form_atom text.now declarations.now) forms.now))) }
-        ensures atoms { OnOk result (AddsAtoms self.new (map (form_atom text.now declarations.now) forms.now) built.old.items built.new.items) }
+        requires room { HasRoom
+            self.old
+            (length (symbols_in (map (form_atom text.now declarations.now) forms.now))) }
+        ensures numbered { OnOk
+            result
+            (HasNumbered
+            self.old
+            self.new
+            (symbols_in (map (form_atom text.now declarations.now) forms.now))) }
+        ensures atoms { OnOk
+            result
+            (AddsAtoms self.new (map (form_atom text.now declarations.now) forms.now)
+            built.old.items built.new.items) }
         ensures err { IfErr result (λ e. e ≡ Memory) }
     {
         for form in forms {
@@ -204,9 +244,27 @@ impl Numbers {
         built: &mut Vec<Atom>,
     ) -> Result<(), ReadFault>
         requires few { HaveFewTerms forms.now }
-        requires room { HasRoom self.old (length (symbols_in (symbol_atoms (declared_view text.now declarations.now) (atoms_view text.now forms.now)))) }
-        ensures numbered { OnOk result (HasNumbered self.old self.new (symbols_in (symbol_atoms (declared_view text.now declarations.now) (atoms_view text.now forms.now)))) }
-        ensures atoms { OnOk result (AddsAtoms self.new (symbol_atoms (declared_view text.now declarations.now) (atoms_view text.now forms.now)) built.old.items built.new.items) }
+        requires room { HasRoom
+            self.old
+            (length
+            (symbols_in
+            (symbol_atoms
+            (declared_view text.now declarations.now)
+            (atoms_view text.now forms.now)))) }
+        ensures numbered { OnOk
+            result
+            (HasNumbered
+            self.old
+            self.new
+            (symbols_in
+            (symbol_atoms
+            (declared_view text.now declarations.now)
+            (atoms_view text.now forms.now)))) }
+        ensures atoms { OnOk
+            result
+            (AddsAtoms self.new
+            (symbol_atoms (declared_view text.now declarations.now) (atoms_view text.now forms.now))
+            built.old.items built.new.items) }
         ensures err { IfErr result (λ e. e ≡ Memory) }
     {
         let atom = self.atom(alloc, text, declarations, &forms.first)?;
@@ -228,9 +286,22 @@ impl Numbers {
         requires body_terms { HaveFewTerms body.now }
         requires few_heads { length heads.now.others.items < 32 }
         requires few_body { length body.now.others.items < 32 }
-        requires names { length self.old.names + length (rule_symbols (written_rule text.now declarations.now heads.now body.now)) < 2 ^ 32 - 1 }
-        ensures names { OnOk result (self.new.names ≡ with_names self.old.names (constants_of (rule_symbols (written_rule text.now declarations.now heads.now body.now)))) }
-        ensures rule { IfOk result (λ r. r ≡ rule_value self.new.names (written_rule text.now declarations.now heads.now body.now)) }
+        requires names { length self.old.names +
+            length (rule_symbols (written_rule text.now declarations.now heads.now body.now))
+            < 2 ^ 32 - 1 }
+        ensures names { OnOk
+            result
+            (self.new.names ≡
+            with_names
+            self.old.names
+            (constants_of
+            (rule_symbols
+            (written_rule text.now declarations.now heads.now body.now)))) }
+        ensures rule { IfOk result (λ r.
+            r ≡
+            rule_value
+            self.new.names
+            (written_rule text.now declarations.now heads.now body.now)) }
         ensures err { IfErr result (λ e. e ≡ Memory) }
     {
         let mut head_atoms = Vec::new(alloc);
@@ -255,9 +326,21 @@ impl Numbers {
         requires few_atoms { length body.now.others.items < 32 }
         requires few_answers { length (written_query text.now declarations.now answers.now body.now).answers ≤ 16 }
         requires safe { IsSafeQuery (written_query text.now declarations.now answers.now body.now) }
-        requires names { length self.old.names + length (query_symbols (written_query text.now declarations.now answers.now body.now)) < 2 ^ 32 - 1 }
-        ensures names { OnOk result (self.new.names ≡ with_names self.old.names (constants_of (query_symbols (written_query text.now declarations.now answers.now body.now)))) }
-        ensures query { IfOk result (λ q. IsQueryOf self.new.names (written_query text.now declarations.now answers.now body.now) q) }
+        requires names { length self.old.names +
+            length
+            (query_symbols (written_query text.now declarations.now answers.now body.now))
+            < 2 ^ 32 - 1 }
+        ensures names { OnOk
+            result
+            (self.new.names ≡
+            with_names
+            self.old.names
+            (constants_of
+            (query_symbols
+            (written_query text.now declarations.now answers.now body.now)))) }
+        ensures query { IfOk result (λ q.
+            IsQueryOf self.new.names
+            (written_query text.now declarations.now answers.now body.now) q) }
         ensures err { IfErr result (λ e. e ≡ Memory) }
     {
         let mut terms = Vec::new(alloc);
@@ -277,9 +360,25 @@ impl Numbers {
         answers: &Option<Vec<Token>>,
         built: &mut Vec<Term>,
     ) -> Result<(), ReadFault>
-        requires { HasRoom self.old (length (map (symbol (declared_view text.now declarations.now)) (answer_terms (answers_view text.now answers.now)))) }
-        ensures numbered { OnOk result (HasNumbered self.old self.new (map (symbol (declared_view text.now declarations.now)) (answer_terms (answers_view text.now answers.now)))) }
-        ensures terms { OnOk result (AddsTerms self.new (map (symbol (declared_view text.now declarations.now)) (answer_terms (answers_view text.now answers.now))) built.old.items built.new.items) }
+        requires { HasRoom
+            self.old
+            (length
+            (map
+            (symbol (declared_view text.now declarations.now))
+            (answer_terms (answers_view text.now answers.now)))) }
+        ensures numbered { OnOk
+            result
+            (HasNumbered
+            self.old
+            self.new
+            (map
+            (symbol (declared_view text.now declarations.now))
+            (answer_terms (answers_view text.now answers.now)))) }
+        ensures terms { OnOk
+            result
+            (AddsTerms self.new
+            (map (symbol (declared_view text.now declarations.now)) (answer_terms (answers_view text.now answers.now)))
+            built.old.items built.new.items) }
         ensures err { IfErr result (λ e. e ≡ Memory) }
     {
         match answers {
@@ -301,7 +400,8 @@ pub(crate) fn stored_query(
     requires few_answers { vec_len answers ≤ 16 }
     requires few_atoms { vec_len atoms ≤ 32 }
     requires safe { IsSafe (record { answers = answers.items; atoms = atoms.items }) }
-    ensures query { IfOk result (λ q. q ≡ normal_query (record { answers = answers.items; atoms = atoms.items })) }
+    ensures query { IfOk result (λ q.
+        q ≡ normal_query (record { answers = answers.items; atoms = atoms.items })) }
     ensures err { IfErr result (λ e. e ≡ Memory) }
 {
     match Query::new(alloc, answers, atoms) {

@@ -1,10 +1,11 @@
 //! Why a statement of the grammar is refused.
 ghost use Rattle.std.specs.Prelude.{◌≡◌, ◌≤◌, ◌<◌, ◌∷◌, ◌^◌, [], ℕ, List, length, map, IfSome};
+ghost use Rattle.ucq_lexer.specs.declared.TheConstants.{BYTES};
 ghost use Rattle.std.specs.List.{filter_map, list_any};
 ghost use Rattle.ucq_reader.specs.Names.{expanded, word_text};
 ghost use Rattle.ucq_reader.specs.Meaning.{mapped, listed, first_above, arity as spec_arity, first_unknown, first_loose as spec_first_loose, is_variable as spec_is_variable, has_variable as spec_has_variable, is_loose as spec_is_loose, limited_atoms, limit as spec_limit, passed_limit as spec_passed_limit, not_built as spec_not_built, statement_fault as spec_statement_fault, unsafe_answer as spec_unsafe_answer, texts_of, written_answers, written_atoms};
 ghost use Rattle.ucq_reader.specs.Input.{words, starts};
-ghost use Rattle.ucq_reader.specs.Placing.{IsSpelled, placed_view};
+ghost use Rattle.ucq_reader.specs.inner.Placing.{IsSpelled, placed_view};
 ghost use Rattle.ucq_reader.specs.View.{atom_view, atoms_view, declared_view, sentence_view, statement_view, term_view, word_at};
 
 use crate::names::{Declaration, declared, is_undeclared, slice_of, split_prefixed};
@@ -35,7 +36,12 @@ fn unknown_prefix(
     file: u32,
     tokens: &[Token],
 ) -> Option<ReadFault>
-    ensures { result ≡ first_unknown (declared_view text.now declarations.now) file (words text.now tokens.now) (starts tokens.now) }
+    ensures { result ≡
+        first_unknown
+        (declared_view text.now declarations.now)
+        file
+        (words text.now tokens.now)
+        (starts tokens.now) }
 {
     for token in tokens {
         if is_undeclared(text, declarations, *token) {
@@ -50,7 +56,8 @@ fn unknown_prefix(
 
 /// The refusal of a form that isn't built.
 fn not_built(place: Place, form: &StatementForm) -> Option<ReadFault>
-    ensures { (text : List ℕ) → result ≡ spec_not_built (placed_view place.file place.number text [] [] form.now) }
+    ensures { (text : List ℕ) →
+        result ≡ spec_not_built (placed_view place.file place.number text [] [] form.now) }
 {
     let kind = match form {
         StatementForm::Base { .. } => NotBuiltKind::Base,
@@ -70,8 +77,8 @@ fn not_built(place: Place, form: &StatementForm) -> Option<ReadFault>
 
 /// How many bytes the text of a Prefixed token has.
 fn expanded_length(text: &[u8], declarations: &[Declaration], bytes: &[u8]) -> usize
-    requires text { length text.now ≤ 2 ^ 26 }
-    requires bytes { length bytes.now ≤ 2 ^ 26 }
+    requires text { length text.now ≤ BYTES }
+    requires bytes { length bytes.now ≤ BYTES }
     ensures value { result ≡ length (expanded (declared_view text.now declarations.now) bytes.now) }
     ensures small { result ≤ 2 ^ 28 }
 {
@@ -87,8 +94,11 @@ fn expanded_length(text: &[u8], declarations: &[Declaration], bytes: &[u8]) -> u
 
 /// How many bytes the text of a name, a constant or a number has.
 fn name_length(text: &[u8], declarations: &[Declaration], token: Token) -> Option<usize>
-    requires { length text.now ≤ 2 ^ 26 }
-    ensures value { result ≡ mapped length (word_text (declared_view text.now declarations.now) (word_at text.now token)) }
+    requires { length text.now ≤ BYTES }
+    ensures value { result ≡
+        mapped
+        length
+        (word_text (declared_view text.now declarations.now) (word_at text.now token)) }
     ensures small { IfSome result (λ n. n ≤ 2 ^ 28) }
 {
     let bytes = slice_of(text, token);
@@ -101,8 +111,15 @@ fn name_length(text: &[u8], declarations: &[Declaration], token: Token) -> Optio
 
 /// The length of the first name that is too long.
 fn long_name(text: &[u8], declarations: &[Declaration], tokens: &[Token]) -> Option<usize>
-    requires { length text.now ≤ 2 ^ 26 }
-    ensures value { result ≡ first_above 1024 (map length (filter_map (word_text (declared_view text.now declarations.now)) (words text.now tokens.now))) }
+    requires { length text.now ≤ BYTES }
+    ensures value { result ≡
+        first_above
+        1024
+        (map
+        length
+        (filter_map
+        (word_text (declared_view text.now declarations.now))
+        (words text.now tokens.now))) }
     ensures small { IfSome result (λ n. n ≤ 2 ^ 28) }
 {
     for token in tokens {
@@ -121,9 +138,12 @@ fn long_name_of(
     tokens: &[Token],
     form: &StatementForm,
 ) -> Option<usize>
-    requires text { length text.now ≤ 2 ^ 26 }
+    requires text { length text.now ≤ BYTES }
     requires spelled { IsSpelled text.now tokens.now form.now }
-    ensures value { result ≡ first_above 1024 (map length (texts_of (placed_view 0 0 text.now declarations.now [] form.now))) }
+    ensures value { result ≡
+        first_above
+        1024
+        (map length (texts_of (placed_view 0 0 text.now declarations.now [] form.now))) }
     ensures small { IfSome result (λ n. n ≤ 2 ^ 28) }
 {
     match form {
@@ -148,7 +168,8 @@ fn arity(atom: &AtomForm) -> usize
 
 /// The arity of the first atom that has too many terms.
 fn wide_atom(atoms: &Several<AtomForm>) -> Option<usize>
-    ensures { (text : List ℕ) → result ≡ first_above 16 (map spec_arity (listed (atoms_view text atoms.now))) }
+    ensures { (text : List ℕ) →
+        result ≡ first_above 16 (map spec_arity (listed (atoms_view text atoms.now))) }
 {
     let first = arity(&atoms.first);
     if first > TERMS {
@@ -165,7 +186,8 @@ fn wide_atom(atoms: &Several<AtomForm>) -> Option<usize>
 
 /// The arity of the first atom of the statement that has too many terms.
 fn wide_atom_of(form: &StatementForm) -> Option<usize>
-    ensures { (text : List ℕ) → result ≡ first_above 16 (map spec_arity (written_atoms (statement_view text form.now))) }
+    ensures { (text : List ℕ) →
+        result ≡ first_above 16 (map spec_arity (written_atoms (statement_view text form.now))) }
 {
     match form {
         StatementForm::Sentence { sentence, .. } => match sentence {
@@ -182,7 +204,8 @@ fn wide_atom_of(form: &StatementForm) -> Option<usize>
 
 /// The number of the answers, where there are too many.
 fn many_answers(form: &StatementForm) -> Option<usize>
-    ensures { (text : List ℕ) → result ≡ first_above 16 (length (written_answers (statement_view text form.now)) ∷ []) }
+    ensures { (text : List ℕ) →
+        result ≡ first_above 16 (length (written_answers (statement_view text form.now)) ∷ []) }
 {
     match form {
         StatementForm::Sentence {
@@ -202,7 +225,8 @@ fn many_atoms(atoms: &Several<AtomForm>) -> Option<usize>
 
 /// The number of the atoms of the head, else of the body, where there are too many.
 fn many_atoms_of(form: &StatementForm) -> Option<usize>
-    ensures { (text : List ℕ) → result ≡ first_above 32 (map length (limited_atoms (statement_view text form.now))) }
+    ensures { (text : List ℕ) →
+        result ≡ first_above 32 (map length (limited_atoms (statement_view text form.now))) }
 {
     match form {
         StatementForm::Sentence { sentence, .. } => match sentence {
@@ -269,7 +293,10 @@ fn is_held(text: &[u8], atoms: &Several<AtomForm>, variable: &[u8]) -> bool
 
 /// The place of the first answer that is a variable of no atom.
 fn first_loose(text: &[u8], atoms: &Several<AtomForm>, answers: &[Token]) -> Option<usize>
-    ensures value { result ≡ spec_first_loose (listed (atoms_view text.now atoms.now)) (map (term_view text.now) answers.now) }
+    ensures value { result ≡
+        spec_first_loose
+        (listed (atoms_view text.now atoms.now))
+        (map (term_view text.now) answers.now) }
     ensures within { IfSome result (λ place. place < length answers.now) }
 {
     for (place, answer) in answers.iter().enumerate() {
@@ -287,8 +314,8 @@ fn passed_limit(
     tokens: &[Token],
     form: &StatementForm,
 ) -> Option<(Which, usize)>
-    requires text { length text.now ≤ 2 ^ 26 }
-    requires tokens { length tokens.now ≤ 2 ^ 26 }
+    requires text { length text.now ≤ BYTES }
+    requires tokens { length tokens.now ≤ BYTES }
     requires spelled { IsSpelled text.now tokens.now form.now }
     ensures value { result ≡ spec_passed_limit (placed_view 0 0 text.now declarations.now [] form.now) }
     ensures small { IfSome result (λ passed. passed.1 ≤ 2 ^ 28) }
@@ -316,10 +343,11 @@ fn limit(
     tokens: &[Token],
     form: &StatementForm,
 ) -> Option<ReadFault>
-    requires text { length text.now ≤ 2 ^ 26 }
-    requires tokens { length tokens.now ≤ 2 ^ 26 }
+    requires text { length text.now ≤ BYTES }
+    requires tokens { length tokens.now ≤ BYTES }
     requires spelled { IsSpelled text.now tokens.now form.now }
-    ensures { result ≡ spec_limit (placed_view place.file place.number text.now declarations.now [] form.now) }
+    ensures { result ≡
+        spec_limit (placed_view place.file place.number text.now declarations.now [] form.now) }
 {
     match passed_limit(text, declarations, tokens, form) {
         Some((which, count)) => Some(ReadFault::Limit {
@@ -334,7 +362,7 @@ fn limit(
 
 /// The refusal of the first answer that no atom has.
 fn unsafe_answer(text: &[u8], place: Place, form: &StatementForm) -> Option<ReadFault>
-    requires { length (written_answers (statement_view text.now form.now)) ≤ 2 ^ 26 }
+    requires { length (written_answers (statement_view text.now form.now)) ≤ BYTES }
     ensures { result ≡ spec_unsafe_answer (placed_view place.file place.number text.now [] [] form.now) }
 {
     match form {
@@ -362,10 +390,12 @@ pub fn statement_fault(
     tokens: &[Token],
     form: &StatementForm,
 ) -> Option<ReadFault>
-    requires text { length text.now ≤ 2 ^ 26 }
-    requires tokens { length tokens.now ≤ 2 ^ 26 }
+    requires text { length text.now ≤ BYTES }
+    requires tokens { length tokens.now ≤ BYTES }
     requires spelled { IsSpelled text.now tokens.now form.now }
-    ensures { result ≡ spec_statement_fault (placed_view place.file place.number text.now declarations.now tokens.now form.now) }
+    ensures { result ≡
+        spec_statement_fault
+        (placed_view place.file place.number text.now declarations.now tokens.now form.now) }
 {
     if let Some(fault) = unknown_prefix(text, declarations, place.file, tokens) {
         return Some(fault);

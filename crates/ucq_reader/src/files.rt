@@ -1,13 +1,14 @@
 //! From files to the input or the first refusal.
 ghost use Rattle.std.specs.Prelude.{◌≡◌, ◌≤◌, ◌<◌, ◌+◌, ◌-◌, ◌∷◌, ◌^◌, [], ℕ, List, length, IfErr, IfOk, OnOk, None, Some};
+ghost use Rattle.ucq_lexer.specs.declared.TheConstants.{BYTES};
 ghost use Rattle.ucq_reader.specs.declared.ReadFault.{ReadFault};
 ghost use Rattle.ucq_reader.specs.Names.{declare as spec_declare};
 ghost use Rattle.ucq_reader.specs.Gathered.{IsGathered};
 ghost use Rattle.ucq_reader.specs.Input.{IsInput};
 ghost use Rattle.ucq_reader.specs.Meaning.{Placed, statement_fault as spec_statement_fault};
-ghost use Rattle.ucq_reader.specs.Outcome.{OrMemory, IsTaken, IsGrown, IsAdmitted, IsJudged, IsFileTaken, IsFileFault, IsFault, IsWhole, byte_count, input_value, texts};
+ghost use Rattle.ucq_reader.specs.Outcome.{OrMemory, AreTakenUp, IsGrown, IsAdmitted, IsJudged, IsFileTaken, IsFileFault, IsFault, IsWhole, byte_count, input_value, texts};
 ghost use Rattle.ucq_lexer.specs.Tokens.{Spells};
-ghost use Rattle.ucq_reader.specs.Placing.{IsSpelled, placed_view};
+ghost use Rattle.ucq_reader.specs.inner.Placing.{IsSpelled, placed_view};
 ghost use Rattle.ucq_reader.specs.View.{declared_view, statement_view};
 
 use crate::faults::{Place, statement_fault};
@@ -19,15 +20,17 @@ use crate::syntax::StatementForm;
 use crate::{ReadFault, Whole};
 use std::alloc::{AllocError, Global};
 use ucq_lexer::Token;
-
-/// The most rules, and the most atoms of facts as they are written.
-const RULES: usize = 4096;
-
-const FACTS: usize = 1_048_576;
+use ucq_terms::{FACTS, RULES};
 
 /// Notes the statement, if it is a prefix line.
 fn declare(declarations: &mut Vec<Declaration>, form: &StatementForm) -> Result<(), AllocError>
-    ensures { OnOk result ((text : List ℕ) → declared_view text declarations.new.items ≡ spec_declare (declared_view text declarations.old.items) (statement_view text form.now)) }
+    ensures { OnOk
+        result
+        ((text : List ℕ) →
+        declared_view text declarations.new.items
+        ≡ spec_declare
+        (declared_view text declarations.old.items)
+        (statement_view text form.now)) }
 {
     if let StatementForm::Prefix { name, iri, .. } = form {
         declarations.push(Declaration {
@@ -48,15 +51,26 @@ fn take_statement(
     tokens: &[Token],
     form: &StatementForm,
 ) -> Result<(), ReadFault>
-    requires text { length text.now ≤ 2 ^ 26 }
-    requires tokens { length tokens.now ≤ 2 ^ 26 }
+    requires text { length text.now ≤ BYTES }
+    requires tokens { length tokens.now ≤ BYTES }
     requires spelled { IsSpelled text.now tokens.now form.now }
     requires names { length gathered.old.names + length tokens.now < 2 ^ 32 - 1 }
     requires unknowns { gathered.old.unknowns + length tokens.now < 2 ^ 32 - 1 }
-    ensures clear { OnOk result (spec_statement_fault (placed_view place.file place.number text.now declarations.now tokens.now form.now) ≡ None) }
-    ensures taken { OnOk result (IsTaken (placed_view place.file place.number text.now declarations.now tokens.now form.now ∷ []) gathered.old gathered.new) }
+    ensures clear { OnOk
+        result
+        (spec_statement_fault
+        (placed_view place.file place.number text.now declarations.now tokens.now form.now)
+        ≡ None) }
+    ensures taken { OnOk
+        result
+        (AreTakenUp
+        (placed_view place.file place.number text.now declarations.now tokens.now form.now ∷ [])
+        gathered.old gathered.new) }
     ensures grown { OnOk result (IsGrown gathered.old gathered.new (length tokens.now)) }
-    ensures fault { IfErr result (λ f. OrMemory (λ (g : ReadFault). spec_statement_fault (placed_view place.file place.number text.now declarations.now tokens.now form.now) ≡ Some g) f) }
+    ensures fault { IfErr result (λ f.
+        OrMemory
+        (λ (g : ReadFault). spec_statement_fault (placed_view place.file place.number text.now declarations.now tokens.now form.now) ≡ Some g)
+        f) }
 {
     if let Some(fault) = statement_fault(text, declarations, place, tokens, form) {
         return Err(fault);
@@ -74,13 +88,21 @@ fn admit(
     tokens: &[Token],
     form: &StatementForm,
 ) -> Result<(), ReadFault>
-    requires text { length text.now ≤ 2 ^ 26 }
-    requires tokens { length tokens.now ≤ 2 ^ 26 }
+    requires text { length text.now ≤ BYTES }
+    requires tokens { length tokens.now ≤ BYTES }
     requires spelled { IsSpelled text.now tokens.now form.now }
     requires names { length gathered.old.names + length tokens.now < 2 ^ 32 - 1 }
     requires unknowns { gathered.old.unknowns + length tokens.now < 2 ^ 32 - 1 }
-    ensures admitted { OnOk result (IsAdmitted text.now (placed_view place.file place.number text.now declarations.old.items tokens.now form.now) (length tokens.now) declarations.old.items declarations.new.items gathered.old gathered.new) }
-    ensures fault { IfErr result (λ f. OrMemory (λ (g : ReadFault). spec_statement_fault (placed_view place.file place.number text.now declarations.old.items tokens.now form.now) ≡ Some g) f) }
+    ensures admitted { OnOk
+        result
+        (IsAdmitted text.now
+        (placed_view place.file place.number text.now declarations.old.items tokens.now form.now)
+        (length tokens.now) declarations.old.items declarations.new.items gathered.old
+        gathered.new) }
+    ensures fault { IfErr result (λ f.
+        OrMemory
+        (λ (g : ReadFault). spec_statement_fault (placed_view place.file place.number text.now declarations.old.items tokens.now form.now) ≡ Some g)
+        f) }
 {
     take_statement(
         alloc,
@@ -106,12 +128,15 @@ fn judge(
     form: &StatementForm,
     refusal: Option<ReadFault>,
 ) -> Option<ReadFault>
-    requires text { length text.now ≤ 2 ^ 26 }
-    requires tokens { length tokens.now ≤ 2 ^ 26 }
+    requires text { length text.now ≤ BYTES }
+    requires tokens { length tokens.now ≤ BYTES }
     requires spelled { IsSpelled text.now tokens.now form.now }
     requires names { refusal ≡ None → length gathered.old.names + length tokens.now < 2 ^ 32 - 1 }
     requires unknowns { refusal ≡ None → gathered.old.unknowns + length tokens.now < 2 ^ 32 - 1 }
-    ensures { IsJudged refusal (placed_view place.file place.number text.now declarations.old.items tokens.now form.now) (IsAdmitted text.now (placed_view place.file place.number text.now declarations.old.items tokens.now form.now) (length tokens.now) declarations.old.items declarations.new.items gathered.old gathered.new) result }
+    ensures { IsJudged refusal
+        (placed_view place.file place.number text.now declarations.old.items tokens.now form.now)
+        (IsAdmitted text.now (placed_view place.file place.number text.now declarations.old.items tokens.now form.now) (length tokens.now) declarations.old.items declarations.new.items gathered.old gathered.new)
+        result }
 {
     match refusal {
         Some(fault) => Some(fault),
@@ -131,7 +156,7 @@ fn take_statements(
     text: &[u8],
     tokens: &[Token],
 ) -> Result<(), ReadFault>
-    requires text { length text.now ≤ 2 ^ 26 }
+    requires text { length text.now ≤ BYTES }
     requires spells { Spells text.now tokens.now }
     requires names { length gathered.old.names + length text.now < 2 ^ 32 - 1 }
     requires unknowns { gathered.old.unknowns + length text.now < 2 ^ 32 - 1 }
@@ -172,7 +197,7 @@ fn take_file(
     file: u32,
     text: &[u8],
 ) -> Result<(), ReadFault>
-    requires text { length text.now ≤ 2 ^ 26 }
+    requires text { length text.now ≤ BYTES }
     requires names { length gathered.old.names + length text.now < 2 ^ 32 - 1 }
     requires unknowns { gathered.old.unknowns + length text.now < 2 ^ 32 - 1 }
     ensures taken { OnOk result (IsFileTaken file text.now gathered.old gathered.new) }
@@ -188,18 +213,18 @@ fn whole_fault(gathered: &Gathered) -> Option<ReadFault>
     requires rules { length gathered.now.rules < 2 ^ 32 }
     requires facts { length gathered.now.facts < 2 ^ 32 }
     ensures whole { (all : List Placed) → IsGathered all gathered.now → IsWhole all gathered.now result }
-    ensures few_rules { result ≡ None → length gathered.now.rules ≤ 4096 }
-    ensures few_facts { result ≡ None → length gathered.now.facts ≤ 2 ^ 20 }
+    ensures few_rules { result ≡ None → length gathered.now.rules ≤ RULES }
+    ensures few_facts { result ≡ None → length gathered.now.facts ≤ FACTS }
 {
     let rules = gathered.rule_count();
-    if rules > RULES {
+    if rules > RULES as usize {
         return Some(ReadFault::TooMany {
             which: Whole::Rules,
             count: rules as u32,
         });
     }
     let facts = gathered.fact_count();
-    if facts > FACTS {
+    if facts > FACTS as usize {
         return Some(ReadFault::TooMany {
             which: Whole::Facts,
             count: facts as u32,
@@ -222,10 +247,10 @@ fn whole_fault(gathered: &Gathered) -> Option<ReadFault>
 pub fn read_files(alloc: Global, files: &[Vec<u8>]) -> Result<Input, ReadFault>
     requires some { 0 < length files.now }
     requires few { length files.now ≤ 64 }
-    requires small { byte_count (texts files.now) ≤ 2 ^ 26 }
+    requires small { byte_count (texts files.now) ≤ BYTES }
     ensures input { IfOk result (λ input. IsInput (texts files.now) (input_value input)) }
-    ensures rules { IfOk result (λ input. length (input_value input).rules ≤ 4096) }
-    ensures facts { IfOk result (λ input. length (input_value input).facts ≤ 2 ^ 20) }
+    ensures rules { IfOk result (λ input. length (input_value input).rules ≤ RULES) }
+    ensures facts { IfOk result (λ input. length (input_value input).facts ≤ FACTS) }
     ensures fault { IfErr result (λ fault. IsFault (texts files.now) fault) }
 {
     let mut gathered = Gathered::new(alloc)?;

@@ -28,7 +28,15 @@ impl Model for Gathered {
 
     ghost Value = { GatheredValue };
 
-    ghost view = { λ g. record { names = g.numbers.names; rules = g.rules.items; facts = g.facts.items; unknowns = g.unknowns; query = g.query; second = g.second } };
+    ghost view = { λ g.
+        record {
+          names = g.numbers.names;
+          rules = g.rules.items;
+          facts = g.facts.items;
+          unknowns = g.unknowns;
+          query = g.query;
+          second = g.second;
+        } };
 }
 
 impl Gathered {
@@ -67,14 +75,31 @@ impl Gathered {
         number: u32,
         statement: &StatementForm,
     ) -> Result<(), ReadFault>
-        requires accepted { IsAccepted (declared_view text.now declarations.now) (statement_view text.now statement.now) }
-        requires names { length self.old.names + length (spelling (statement_view text.now statement.now)) < 2 ^ 32 - 1 }
-        requires unknowns { self.old.unknowns + length (spelling (statement_view text.now statement.now)) < 2 ^ 32 - 1 }
-        ensures gathered { OnOk result ((all : List Placed) (starts : List ℕ) → IsGathered all self.old → IsGathered (all ++ (record { file = file; number = number; starts = starts; before = declared_view text.now declarations.now; statement = statement_view text.now statement.now }) ∷ []) self.new) }
+        requires accepted { IsAccepted
+            (declared_view text.now declarations.now)
+            (statement_view text.now statement.now) }
+        requires names { length self.old.names + length (spelling (statement_view text.now statement.now))
+            < 2 ^ 32 - 1 }
+        requires unknowns { self.old.unknowns + length (spelling (statement_view text.now statement.now))
+            < 2 ^ 32 - 1 }
+        ensures gathered { OnOk
+            result
+            ((all : List Placed) (starts : List ℕ) →
+            IsGathered all self.old →
+            IsGathered
+            (all ++ (record { file = file; number = number; starts = starts; before = declared_view text.now declarations.now; statement = statement_view text.now statement.now }) ∷ [])
+            self.new) }
 
         // Names and unknown values are words of the statement.
-        ensures names_grow { OnOk result (length self.new.names ≤ length self.old.names + length (spelling (statement_view text.now statement.now))) }
-        ensures unknowns_grow { OnOk result (self.new.unknowns ≤ self.old.unknowns + length (spelling (statement_view text.now statement.now))) }
+        ensures names_grow { OnOk
+            result
+            (length self.new.names ≤
+            length self.old.names +
+            length (spelling (statement_view text.now statement.now))) }
+        ensures unknowns_grow { OnOk
+            result
+            (self.new.unknowns ≤
+            self.old.unknowns + length (spelling (statement_view text.now statement.now))) }
         ensures err { IfErr result (λ e. e ≡ Memory) }
     {
         match statement {
@@ -101,9 +126,25 @@ impl Gathered {
         atoms: &Several<AtomForm>,
     ) -> Result<(), ReadFault>
         requires few { HaveFewTerms atoms.now }
-        requires names { length self.old.names + length (symbols_in (symbol_atoms (declared_view text.now declarations.now) (atoms_view text.now atoms.now))) < 2 ^ 32 - 1 }
-        requires unknowns { self.old.unknowns + length (symbols_in (symbol_atoms (declared_view text.now declarations.now) (atoms_view text.now atoms.now))) < 2 ^ 32 - 1 }
-        ensures added { OnOk result (AddsFact (symbol_atoms (declared_view text.now declarations.now) (atoms_view text.now atoms.now)) self.old self.new) }
+        requires names { length self.old.names +
+            length
+            (symbols_in
+            (symbol_atoms
+            (declared_view text.now declarations.now)
+            (atoms_view text.now atoms.now)))
+            < 2 ^ 32 - 1 }
+        requires unknowns { self.old.unknowns +
+            length
+            (symbols_in
+            (symbol_atoms
+            (declared_view text.now declarations.now)
+            (atoms_view text.now atoms.now)))
+            < 2 ^ 32 - 1 }
+        ensures added { OnOk
+            result
+            (AddsFact
+            (symbol_atoms (declared_view text.now declarations.now) (atoms_view text.now atoms.now))
+            self.old self.new) }
         ensures err { IfErr result (λ e. e ≡ Memory) }
     {
         self.numbers.begin(alloc, self.unknowns)?;
@@ -126,8 +167,13 @@ impl Gathered {
         requires body_terms { HaveFewTerms body.now }
         requires few_heads { length heads.now.others.items < 32 }
         requires few_body { length body.now.others.items < 32 }
-        requires names { length self.old.names + length (rule_symbols (written_rule text.now declarations.now heads.now body.now)) < 2 ^ 32 - 1 }
-        ensures added { OnOk result (AddsRule (written_rule text.now declarations.now heads.now body.now) self.old self.new) }
+        requires names { length self.old.names +
+            length (rule_symbols (written_rule text.now declarations.now heads.now body.now))
+            < 2 ^ 32 - 1 }
+        ensures added { OnOk
+            result
+            (AddsRule (written_rule text.now declarations.now heads.now body.now) self.old
+            self.new) }
         ensures err { IfErr result (λ e. e ≡ Memory) }
     {
         let rule = self.numbers.rule(alloc, text, declarations, heads, body)?;
@@ -149,8 +195,15 @@ impl Gathered {
         requires few_body { length body.now.others.items < 32 }
         requires few_answers { length (written_query text.now declarations.now answers.now body.now).answers ≤ 16 }
         requires safe { IsSafeQuery (written_query text.now declarations.now answers.now body.now) }
-        requires names { length self.old.names + length (query_symbols (written_query text.now declarations.now answers.now body.now)) < 2 ^ 32 - 1 }
-        ensures added { OnOk result (AddsQuery place.0 place.1 (written_query text.now declarations.now answers.now body.now) self.old self.new) }
+        requires names { length self.old.names +
+            length
+            (query_symbols (written_query text.now declarations.now answers.now body.now))
+            < 2 ^ 32 - 1 }
+        ensures added { OnOk
+            result
+            (AddsQuery place.0 place.1
+            (written_query text.now declarations.now answers.now body.now) self.old
+            self.new) }
         ensures err { IfErr result (λ e. e ≡ Memory) }
     {
         let query = self

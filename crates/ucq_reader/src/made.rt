@@ -1,12 +1,13 @@
 //! Inputs that are made for a number, and not read: a chain of rules, a query under them, and facts along the chain.
 ghost use Rattle.std.specs.Prelude.{◌≡◌, ◌≤◌, ◌<◌, ◌+◌, ◌-◌, ◌*◌, ◌^◌, [], ◌∷◌, length, vec_len, IfOk, OnOk, IsSome, Some, None, codes, string_bytes};
+ghost use Rattle.ucq_terms.specs.declared.TheConstants.{FACTS, RULES};
 ghost use Rattle.ucq_terms.specs.Names.{with_name};
 ghost use Rattle.ucq_reader.specs.Meaning.{constant};
 ghost use Rattle.ucq_reader.specs.Input.{IsNumbered, IsQueryOf, rule_value};
 ghost use Rattle.ucq_reader.specs.Building.{AddsFact, AddsQuery, AddsRule, IsNumberOf, with_names};
 ghost use Rattle.ucq_reader.specs.Outcome.{input_value};
 ghost use Rattle.ucq_reader.specs.Made.{binary, chain_rule, last_fact, last_rule, made, made_query, numbered, pair_fact, query_texts, rule_texts, unary};
-ghost use Rattle.ucq_reader.specs.Making.{HasChain, HasFacts, HasPairs, HasRules, AreMadeAtoms, IsMadeAtom};
+ghost use Rattle.ucq_reader.specs.inner.Making.{HasChain, HasFacts, HasPairs, HasRules, AreMadeAtoms, IsMadeAtom};
 
 use crate::building::stored_query;
 use crate::input::Input;
@@ -27,8 +28,8 @@ pub fn made_input(alloc: Global, n: u32) -> Result<Input, NoMemory>
     ensures numbered { IfOk result (λ input. IsNumbered (made n) (input_value input)) }
 
     // So the rules and the facts are within the limits of what is read.
-    ensures rules { IfOk result (λ input. length (input_value input).rules ≤ 4096) }
-    ensures facts { IfOk result (λ input. length (input_value input).facts ≤ 2 ^ 20) }
+    ensures rules { IfOk result (λ input. length (input_value input).rules ≤ RULES) }
+    ensures facts { IfOk result (λ input. length (input_value input).facts ≤ FACTS) }
 {
     let mut parts = Parts::new(alloc)?;
     parts.push_rules(alloc, n)?;
@@ -79,7 +80,9 @@ fn binary(
 ) -> Result<Atom, NoMemory>
     requires { length names.old + 3 < 2 ^ 32 - 1 }
     ensures names { OnOk result (names.new ≡ with_names names.old (name.now ∷ first.now ∷ second.now ∷ [])) }
-    ensures atom { IfOk result (IsMadeAtom names.new (binary name.now (constant first.now) (constant second.now))) }
+    ensures atom { IfOk
+        result
+        (IsMadeAtom names.new (binary name.now (constant first.now) (constant second.now))) }
 {
     let name = names.number(name)?;
     let first = names.number(first)?;
@@ -157,7 +160,15 @@ impl Model for Parts {
 
     ghost Value = { GatheredValue };
 
-    ghost view = { λ p. record { names = p.names; rules = p.rules.items; facts = p.facts.items; unknowns = 0; query = p.query; second = None } };
+    ghost view = { λ p.
+        record {
+          names = p.names;
+          rules = p.rules.items;
+          facts = p.facts.items;
+          unknowns = 0;
+          query = p.query;
+          second = None;
+        } };
 }
 
 impl Parts {

@@ -60,7 +60,8 @@ pub fn declared(text: &[u8], declarations: &[Declaration], prefix: &[u8]) -> Opt
 
 /// Whether the token is a Prefixed token whose prefix isn't declared.
 pub fn is_undeclared(text: &[u8], declarations: &[Declaration], token: Token) -> bool
-    ensures { result ≡ spec_is_undeclared (declared_view text.now declarations.now) (word_at text.now token) }
+    ensures { result ≡
+        spec_is_undeclared (declared_view text.now declarations.now) (word_at text.now token) }
 {
     match token.kind {
         Kind::Prefixed => {

@@ -1,10 +1,11 @@
 //! The statements of one file.
 ghost use Rattle.std.specs.Prelude.{◌≤◌, ◌<◌, ◌^◌, length, drop, IfOk, IfErr};
+ghost use Rattle.ucq_lexer.specs.declared.TheConstants.{BYTES};
 ghost use Rattle.ucq_lexer.specs.Tokens.{Spells};
 ghost use Rattle.ucq_reader.specs.declared.stages.Ending.TheVariants.{Complete};
-ghost use Rattle.ucq_reader.specs.Ending.{IsEnding};
+ghost use Rattle.ucq_reader.specs.inner.Ending.{IsEnding};
 ghost use Rattle.ucq_reader.specs.Outcome.{OrMemory};
-ghost use Rattle.ucq_reader.specs.Parse.{IsMalformed, IsNoStatement};
+ghost use Rattle.ucq_reader.specs.inner.Parse.{IsMalformed, IsNoStatement};
 
 use crate::ReadFault;
 use crate::stages::{Ending, statement};
@@ -21,7 +22,7 @@ pub struct CountedStatement {
 
 /// The tokens of a file, or the byte at which none begins.
 pub fn tokens_of(alloc: Global, file: u32, text: &[u8]) -> Result<Vec<Token>, ReadFault>
-    requires { length text.now ≤ 2 ^ 26 }
+    requires { length text.now ≤ BYTES }
     ensures found { IfOk result (λ tokens. Spells text.now tokens.items) }
     ensures fault { IfErr result (λ fault. IsMalformed file text.now fault) }
 {

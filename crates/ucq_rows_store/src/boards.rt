@@ -2,7 +2,7 @@
 ghost use Rattle.std.specs.Prelude.{◌≡◌};
 ghost use Rattle.ucq_board.specs.Steps.{drew};
 ghost use Rattle.ucq_board.specs.Calls.{DrawsNone};
-ghost use Rattle.ucq_board.specs.Values.{IsOf};
+ghost use Rattle.ucq_board.specs.Values.{IsSeatOf};
 
 use crate::asserts::{equal, holds};
 use std::process::Abort;
@@ -12,9 +12,9 @@ use ucq_board::{Board, Seat};
 
 /// Asserts that the seat draws this row.
 fn draws(rt: &impl Abort, board: &Board, seat: &mut Seat, row: u32)
-    requires { IsOf board.now seat.old }
+    requires { IsSeatOf board.now seat.old }
     ensures view { seat.new.view ≡ drew seat.old.view row }
-    ensures board { IsOf board.now seat.new }
+    ensures board { IsSeatOf board.now seat.new }
 {
     match board.draw(seat) {
         Some(drawn) => assert_eq!(rt; drawn, row),
@@ -24,9 +24,9 @@ fn draws(rt: &impl Abort, board: &Board, seat: &mut Seat, row: u32)
 
 /// Asserts that the seat draws no row.
 fn draws_none(rt: &impl Abort, board: &Board, seat: &mut Seat)
-    requires { IsOf board.now seat.old }
+    requires { IsSeatOf board.now seat.old }
     ensures view { DrawsNone seat.old.view seat.new.view }
-    ensures board { IsOf board.now seat.new }
+    ensures board { IsSeatOf board.now seat.new }
 {
     match board.draw(seat) {
         Some(_) => panic!(rt; "a row was drawn"),
@@ -77,8 +77,8 @@ fn a_stopped_seat_draws_no_row(rt: HostRuntime) -> Result<(), Fail> {
 
 /// Draws and finishes rows to the end.
 fn work(board: &Board, mut seat: Seat) -> Seat
-    requires { IsOf board.now seat }
-    ensures board { IsOf board.now result }
+    requires { IsSeatOf board.now seat }
+    ensures board { IsSeatOf board.now result }
     ensures spare { result.view.spare ≡ seat.view.spare }
 {
     for _ in 0..=1000u32 {
@@ -97,12 +97,12 @@ fn two_threads_draw_all_rows(rt: HostRuntime) -> Result<(), Fail> {
     let (mut first, second) = join(
         &rt,
         || -> Seat
-            requires { IsOf shared.now first × (first.view.spare ≡ 0) }
-            ensures { IsOf shared.entry.now result × (result.view.spare ≡ 0) }
+            requires { IsSeatOf shared.now first × (first.view.spare ≡ 0) }
+            ensures { IsSeatOf shared.entry.now result × (result.view.spare ≡ 0) }
         { work(shared, first) },
         || -> Seat
-            requires { IsOf shared.now second × (second.view.spare ≡ 0) }
-            ensures { IsOf shared.entry.now result × (result.view.spare ≡ 0) }
+            requires { IsSeatOf shared.now second × (second.view.spare ≡ 0) }
+            ensures { IsSeatOf shared.entry.now result × (result.view.spare ≡ 0) }
         { work(shared, second) },
     );
     holds(&rt, first.has_ended() && second.has_ended());

@@ -1,6 +1,6 @@
 //! Entries of a log, which threads share.
 ghost use Rattle.std.specs.Prelude.{◌≡◌, ◌≤◌, length, IfOk, All};
-ghost use Rattle.ucq_log.specs.Log.{IsOf};
+ghost use Rattle.ucq_log.specs.Log.{IsEntryOf};
 
 use crate::asserts::{equal, holds};
 use std::alloc::Global;
@@ -16,7 +16,7 @@ use ucq_worked::query;
 
 /// The entry of the row and the query of the text.
 fn added<R: Wait>(rt: &R, alloc: Global, log: &Log, row: u32, text: &str) -> Result<Entry, Fail>
-    ensures { IfOk result (λ e. IsOf log.now e) }
+    ensures { IfOk result (λ e. IsEntryOf log.now e) }
 {
     match log.add(rt, row, query(alloc, text)?) {
         Ok(entry) => Ok(entry),
@@ -50,7 +50,7 @@ fn seen(
     there: &str,
 ) -> Result<Option<Found>, Fail>
     requires few { length own.now ≤ 65536 }
-    requires ours { All (λ e. IsOf log.now e) own.now }
+    requires ours { All (λ e. IsEntryOf log.now e) own.now }
 {
     let mut space = HomSpace::new(alloc)?;
     let there = query(alloc, there)?;
@@ -108,8 +108,8 @@ fn the_newest_is_found(rt: HostRuntime) -> Result<(), Fail> {
 
 /// The entry of the row and the query, as it was added and as it is found.
 fn twice<R: Wait>(rt: &R, alloc: Global, log: &Log) -> Result<(Entry, Entry), Fail>
-    ensures added { IfOk result (λ r. IsOf log.now r.0) }
-    ensures found { IfOk result (λ r. IsOf log.now r.1) }
+    ensures added { IfOk result (λ r. IsEntryOf log.now r.0) }
+    ensures found { IfOk result (λ r. IsEntryOf log.now r.1) }
 {
     let mut space = HomSpace::new(alloc)?;
     let entry = added(rt, alloc, log, 1, "? pX")?;
@@ -135,16 +135,16 @@ fn added_by_two<R: Threads + Wait + Sync>(
     one: Query,
     other: Query,
 ) -> (Result<Entry, Unkept>, Result<Entry, Unkept>)
-    ensures one { IfOk result.0 (λ e. IsOf log.now e) }
-    ensures other { IfOk result.1 (λ e. IsOf log.now e) }
+    ensures one { IfOk result.0 (λ e. IsEntryOf log.now e) }
+    ensures other { IfOk result.1 (λ e. IsEntryOf log.now e) }
 {
     thread::join(
         rt,
         move || -> Result<Entry, Unkept>
-            ensures { IfOk result (λ e. IsOf log.entry.now e) }
+            ensures { IfOk result (λ e. IsEntryOf log.entry.now e) }
         { log.add(rt, 1, one) },
         move || -> Result<Entry, Unkept>
-            ensures { IfOk result (λ e. IsOf log.entry.now e) }
+            ensures { IfOk result (λ e. IsEntryOf log.entry.now e) }
         { log.add(rt, 2, other) },
     )
 }
@@ -156,7 +156,7 @@ fn told(
     entry: &Result<Entry, Unkept>,
     text: &str,
 ) -> Result<Option<(u32, bool)>, Fail>
-    requires { IfOk entry.now (λ e. IsOf log.now e) }
+    requires { IfOk entry.now (λ e. IsEntryOf log.now e) }
 {
     let wanted = query(alloc, text)?;
     match entry {

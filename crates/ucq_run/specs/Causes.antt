@@ -1,5 +1,6 @@
 -- Why a run printed nothing.
 use Rattle.std.specs.Prelude.{◌≡◌, ◌<◌, ◌≤◌, ◌+◌, ◌^◌, ℕ, List, length, take, slice_get, Option, Some, IfSome}
+use Rattle.ucq_lexer.specs.declared.TheConstants.{BYTES}
 use Rattle.ucq_outside.specs.Causes.{Rose}
 use Rattle.ucq_reader.specs.declared.ReadFault.{ReadFault}
 use Rattle.ucq_reader.specs.Input.{IsRefused}
@@ -21,7 +22,7 @@ pub record IsTooLong (held : List ℕ → Option (List ℕ)) (names : List (List
   pub read : AreRead held (take file names) before
   pub name : List ℕ
   pub named : slice_get names file ≡ Some name
-  pub long : IfSome (held name) (λ bytes. 2 ^ 26 < byte_count before + length bytes)
+  pub long : IfSome (held name) (λ bytes. BYTES < byte_count before + length bytes)
 
 -- all files were read, and the reader has that refusal
 pub record AreRefusedFor (held : List ℕ → Option (List ℕ)) (names : List (List ℕ)) (fault : ReadFault) : Type 0 where
@@ -33,7 +34,7 @@ pub record AreRefusedFor (held : List ℕ → Option (List ℕ)) (names : List (
 abbrev pub IsUnreadAt : ℕ → Option (List ℕ) → ℕ → ℕ → ℕ → Outcome → Type 0
 IsUnreadAt number held total before after NoMemory = Unit {0}
 IsUnreadAt number held total before after (ReadFaultAt file at) = (file ≡ number) × Rose before after × IfSome held (λ bytes. at ≤ length bytes)
-IsUnreadAt number held total before after (TooLong file) = (file ≡ number) × IfSome held (λ bytes. 2 ^ 26 < total + length bytes)
+IsUnreadAt number held total before after (TooLong file) = (file ≡ number) × IfSome held (λ bytes. BYTES < total + length bytes)
 IsUnreadAt number held total before after _ = ⊥
 
 -- why files of these names, read from a shelf with these counts of faults, stand for no input

@@ -1,5 +1,6 @@
 -- What the words of a run ask for, and the input that it is asked of.
 use Rattle.std.specs.Prelude.{◌≡◌, ◌≤◌, ◌^◌, ℕ, Bool, true, false, List, length, Option, IfSome}
+use Rattle.ucq_lexer.specs.declared.TheConstants.{BYTES}
 use Rattle.std.specs.List.{AllZip}
 use Rattle.ucq_terms.specs.Syntax.{Problem}
 use Rattle.ucq_reader.specs.Input.{InputValue, IsInput, IsNumbered}
@@ -22,7 +23,7 @@ call_of words held before after = record { words = words; held = held; faults_be
 -- The texts of the files with these names, in their order: as the shelf tells them, where it does, and not too long together.
 pub record AreRead (held : List ℕ → Option (List ℕ)) (names texts : List (List ℕ)) : Type 0 where
   pub told : AllZip (λ (name text : List ℕ). IfSome (held name) (λ file. text ≡ file)) names texts
-  pub short : byte_count texts ≤ 2 ^ 26
+  pub short : byte_count texts ≤ BYTES
 
 -- files were read that stand for the input
 pub record IsReadInput (held : List ℕ → Option (List ℕ)) (names : List (List ℕ)) (input : InputValue) : Type 0 where

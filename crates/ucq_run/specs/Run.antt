@@ -1,5 +1,6 @@
 -- What a run is.
 use Rattle.std.specs.Prelude.{◌≡◌, ◌≢◌, ◌<◌, ◌≤◌, ◌^◌, ◌⊎◌, ◌↔◌, ℕ, List, Some, Result, Ok, Err, All}
+use Rattle.ucq_lexer.specs.declared.TheConstants.{BYTES}
 use Rattle.std.specs.Global.{Vec}
 use Rattle.std.specs.List.{AllZip}
 use Rattle.ucq_outside.specs.Causes.{Rose}
@@ -52,11 +53,11 @@ pub record TellsFiles (call : Call) (texts : List (List ℕ)) : Type 0 where
 
 -- the files are too long together, or the reader refuses them
 abbrev pub AreRefused : List (List ℕ) → Type 0
-AreRefused texts = (2 ^ 26 < byte_count texts) ⊎ ((byte_count texts ≤ 2 ^ 26) × ((fault : ReadFault) × IsRefused texts fault))
+AreRefused texts = (BYTES < byte_count texts) ⊎ ((byte_count texts ≤ BYTES) × ((fault : ReadFault) × IsRefused texts fault))
 
 -- the files stand for an input
 abbrev pub AreReadable : List (List ℕ) → Type 0
-AreReadable texts = (byte_count texts ≤ 2 ^ 26) × ((input : InputValue) × IsInput texts input)
+AreReadable texts = (byte_count texts ≤ BYTES) × ((input : InputValue) × IsInput texts input)
 
 -- finished or cut, or want of memory
 abbrev pub IsAnswered : ℕ → Type 0
@@ -82,7 +83,7 @@ pub record IsDecided (call : Call) (out : SinkChange) (status : ℕ) : Type 0 wh
       (texts : List (List ℕ)) (settings : SettingsValue) (input : InputValue) →
       TellsFiles call texts →
       ¬ Rose out.faults_before out.faults_after →
-      byte_count texts ≤ 2 ^ 26 →
+      byte_count texts ≤ BYTES →
       IsInput texts input →
       HasEnough call settings input →
       IsFinishedOrWanting status

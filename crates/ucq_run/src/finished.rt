@@ -22,7 +22,9 @@ fn write_live<K: Sink, R: Rows>(
     names: &Names,
     rows: &R,
 ) -> Result<(), Unwritten>
-    ensures written { IsWritten (change_of (K.taken sink.old) (K.taken sink.new) (K.faults sink.old) (K.faults sink.new)) (row_texts names.now (R.value rows.now).rows) result }
+    ensures written { IsWritten
+        (change_of (K.taken sink.old) (K.taken sink.new) (K.faults sink.old) (K.faults sink.new))
+        (row_texts names.now (R.value rows.now).rows) result }
     ensures later { K.faults sink.old ≤ K.faults sink.new }
 {
     for row in 0..rows.count() {
@@ -42,7 +44,9 @@ fn finished_mark(alloc: Global) -> Result<Vec<u8>, NoMemory>
 
 /// Writes the lines before the queries: what was found, and how many queries there are.
 fn write_head<K: Sink>(alloc: Global, sink: &mut K, count: u32) -> Result<(), Unwritten>
-    ensures written { IsWritten (change_of (K.taken sink.old) (K.taken sink.new) (K.faults sink.old) (K.faults sink.new)) (codes "% finished\n" ++ count_line count) result }
+    ensures written { IsWritten
+        (change_of (K.taken sink.old) (K.taken sink.new) (K.faults sink.old) (K.faults sink.new))
+        (codes "% finished\n" ++ count_line count) result }
     ensures later { K.faults sink.old ≤ K.faults sink.new }
 {
     write_made(sink, finished_mark(alloc))?;
@@ -56,7 +60,9 @@ pub fn write_finished<K: Sink, R: Rows>(
     names: &Names,
     rows: &R,
 ) -> Result<(), Unwritten>
-    ensures written { IsWritten (change_of (K.taken sink.old) (K.taken sink.new) (K.faults sink.old) (K.faults sink.new)) (finished_text names.now (live_queries (R.value rows.now).rows)) result }
+    ensures written { IsWritten
+        (change_of (K.taken sink.old) (K.taken sink.new) (K.faults sink.old) (K.faults sink.new))
+        (finished_text names.now (live_queries (R.value rows.now).rows)) result }
     ensures later { K.faults sink.old ≤ K.faults sink.new }
 {
     write_head(alloc, sink, live_count(rows))?;
@@ -72,7 +78,10 @@ pub fn write_answered<K: Sink, R: Rows>(
     answers: &Answers,
 ) -> Result<(), Unwritten>
     requires { answers.now.names ≡ names.now }
-    ensures written { IsWritten (change_of (K.taken sink.old) (K.taken sink.new) (K.faults sink.old) (K.faults sink.new)) (answered_text names.now (live_queries (R.value rows.now).rows) answers.now.tuples) result }
+    ensures written { IsWritten
+        (change_of (K.taken sink.old) (K.taken sink.new) (K.faults sink.old) (K.faults sink.new))
+        (answered_text names.now (live_queries (R.value rows.now).rows) answers.now.tuples)
+        result }
     ensures later { K.faults sink.old ≤ K.faults sink.new }
 {
     write_finished(alloc, sink, names, rows)?;

@@ -1,5 +1,6 @@
 //! The input of a job: read from its files, or made.
 ghost use Rattle.std.specs.Prelude.{◌≡◌, ◌<◌, ◌≤◌, ◌+◌, ◌^◌, IfOk, IfSome, MatchResult, List, ℕ, map, string_bytes, length, vec_len};
+ghost use Rattle.ucq_terms.specs.declared.TheConstants.{FACTS, RULES};
 ghost use Rattle.ucq_reader.specs.Outcome.{IsFault, byte_count, input_value, texts as texts_of};
 ghost use Rattle.ucq_words.specs.Settings.{job_value};
 ghost use Rattle.ucq_run.specs.Inputs.{AreRead, IsInputOf, IsJobWithin, IsReadInput};
@@ -8,12 +9,10 @@ ghost use Rattle.ucq_run.specs.Causes.{HaveCause, IsJobCause, IsRefusal, IsUnrea
 use crate::outcome::Outcome;
 use crate::reading::{Unread, read_file};
 use std::alloc::Global;
+use ucq_lexer::BYTES;
 use ucq_outside::Shelf;
 use ucq_reader::{Input, ReadFault, made_input, read_files};
 use ucq_words::Job;
-
-/// The most bytes that all files have together.
-const MOST: usize = 67_108_864;
 
 /// The bytes of the file of this name, which stands at this place among the files, after so many bytes of those before it.
 fn read_next<H: Shelf>(
@@ -23,14 +22,19 @@ fn read_next<H: Shelf>(
     name: &str,
     total: usize,
 ) -> Result<Vec<u8>, Outcome>
-    requires { total ≤ 2 ^ 26 }
-    ensures read { MatchResult result
-        (λ bytes. IfSome (H.held shelf.old name.now) (λ file. bytes.items ≡ file) × (total + length bytes.items ≤ 2 ^ 26))
-        (λ outcome. IsUnreadAt file (H.held shelf.old name.now) total (H.faults shelf.old) (H.faults shelf.new) outcome) }
+    requires { total ≤ BYTES }
+    ensures read { MatchResult
+        result
+        (λ bytes.
+        IfSome (H.held shelf.old name.now) (λ file. bytes.items ≡ file)
+        × (total + length bytes.items ≤ BYTES))
+        (λ outcome.
+        IsUnreadAt file (H.held shelf.old name.now) total (H.faults shelf.old)
+        (H.faults shelf.new) outcome) }
     ensures held { (n : List ℕ) → H.held shelf.new n ≡ H.held shelf.old n }
     ensures later { H.faults shelf.old ≤ H.faults shelf.new }
 {
-    match read_file(alloc, shelf, name, MOST - total) {
+    match read_file(alloc, shelf, name, BYTES - total) {
         Ok(bytes) => Ok(bytes),
         Err(Unread::Failed { at }) => Err(Outcome::ReadFault { file, at }),
         Err(Unread::TooLong) => Err(Outcome::TooLong { file }),
@@ -45,9 +49,13 @@ fn read_all<H: Shelf>(
     names: &[String],
 ) -> Result<Vec<Vec<u8>>, Outcome>
     requires few { length names.now ≤ 64 }
-    ensures files { MatchResult result
-        (λ files. AreRead (H.held shelf.old) (map string_bytes names.now) (texts_of files.items))
-        (λ outcome. HaveCause (H.held shelf.old) (map string_bytes names.now) (H.faults shelf.old) (H.faults shelf.new) outcome) }
+    ensures files { MatchResult
+        result
+        (λ files.
+        AreRead (H.held shelf.old) (map string_bytes names.now) (texts_of files.items))
+        (λ outcome.
+        HaveCause (H.held shelf.old) (map string_bytes names.now) (H.faults shelf.old)
+        (H.faults shelf.new) outcome) }
     ensures later { H.faults shelf.old ≤ H.faults shelf.new }
 {
     let mut files = Vec::new(alloc);
@@ -77,11 +85,15 @@ fn refusal(fault: ReadFault) -> Outcome
 fn read_input<H: Shelf>(alloc: Global, shelf: &mut H, names: &[String]) -> Result<Input, Outcome>
     requires some { 1 ≤ length names.now }
     requires few { length names.now ≤ 64 }
-    ensures input { MatchResult result
-        (λ input. IsReadInput (H.held shelf.old) (map string_bytes names.now) (input_value input))
-        (λ outcome. HaveCause (H.held shelf.old) (map string_bytes names.now) (H.faults shelf.old) (H.faults shelf.new) outcome) }
-    ensures rules { IfOk result (λ input. length (input_value input).rules ≤ 4096) }
-    ensures facts { IfOk result (λ input. length (input_value input).facts ≤ 2 ^ 20) }
+    ensures input { MatchResult
+        result
+        (λ input.
+        IsReadInput (H.held shelf.old) (map string_bytes names.now) (input_value input))
+        (λ outcome.
+        HaveCause (H.held shelf.old) (map string_bytes names.now) (H.faults shelf.old)
+        (H.faults shelf.new) outcome) }
+    ensures rules { IfOk result (λ input. length (input_value input).rules ≤ RULES) }
+    ensures facts { IfOk result (λ input. length (input_value input).facts ≤ FACTS) }
     ensures later { H.faults shelf.old ≤ H.faults shelf.new }
 {
     let files = match read_all(alloc, shelf, names) {
@@ -97,11 +109,14 @@ fn read_input<H: Shelf>(alloc: Global, shelf: &mut H, names: &[String]) -> Resul
 /// The input of the job, or why there is none.
 pub fn input_of<H: Shelf>(alloc: Global, shelf: &mut H, job: &Job) -> Result<Input, Outcome>
     requires { IsJobWithin (job_value job.now) }
-    ensures input { MatchResult result
+    ensures input { MatchResult
+        result
         (λ input. IsInputOf (H.held shelf.old) (job_value job.now) (input_value input))
-        (λ outcome. IsJobCause (H.held shelf.old) (job_value job.now) (H.faults shelf.old) (H.faults shelf.new) outcome) }
-    ensures rules { IfOk result (λ input. length (input_value input).rules ≤ 4096) }
-    ensures facts { IfOk result (λ input. length (input_value input).facts ≤ 2 ^ 20) }
+        (λ outcome.
+        IsJobCause (H.held shelf.old) (job_value job.now) (H.faults shelf.old)
+        (H.faults shelf.new) outcome) }
+    ensures rules { IfOk result (λ input. length (input_value input).rules ≤ RULES) }
+    ensures facts { IfOk result (λ input. length (input_value input).facts ≤ FACTS) }
     ensures later { H.faults shelf.old ≤ H.faults shelf.new }
 {
     match job {

@@ -9,7 +9,7 @@ ghost use Rattle.ucq_store.specs.Lawful.{IsLawfulByLevels};
 ghost use Rattle.ucq_print.specs.Laws.{ArePrintable, ArePrintableTuples};
 ghost use Rattle.ucq_run.specs.declared.form.Form.{Form as FormValue};
 ghost use Rattle.ucq_run.specs.declared.form.Form.TheVariants.{Queries, Answers, Counts};
-ghost use Rattle.ucq_run.specs.inner.Asked.{IsAbout, IsWithin, question_in};
+ghost use Rattle.ucq_run.specs.inner.Asked.{IsAbout, IsWithinLimits, question_in};
 ghost use Rattle.ucq_run.specs.Finished.{AreChaseAnswers};
 ghost use Rattle.ucq_outside.specs.Taken.{change_of};
 ghost use Rattle.ucq_run.specs.Printed.{IsWrittenAs, PrintsFor};
@@ -44,9 +44,13 @@ fn written(answer: Result<(), Unwritten>, whole: Outcome) -> Outcome
 
 /// Prints the queries of an exact union, of the live rows.
 fn print_queries<K: Sink, R: Rows>(alloc: Global, names: &Names, rows: &R, out: &mut K) -> Outcome
-    ensures prints { (problem : ProblemValue) (facts : List AtomValue) (budget : ℕ) → IsExact problem (live_queries (R.value rows.now).rows) → ArePrintable names.now (live_queries (R.value rows.now).rows) →
-        PrintsFor (record { form = Queries; names = names.now; problem = problem; facts = facts; budget = budget })
-        (change_of (K.taken out.old) (K.taken out.new) (K.faults out.old) (K.faults out.new)) result }
+    ensures prints { (problem : ProblemValue) (facts : List AtomValue) (budget : ℕ) →
+        IsExact problem (live_queries (R.value rows.now).rows) →
+        ArePrintable names.now (live_queries (R.value rows.now).rows) →
+        PrintsFor
+        (record { form = Queries; names = names.now; problem = problem; facts = facts; budget = budget })
+        (change_of (K.taken out.old) (K.taken out.new) (K.faults out.old) (K.faults out.new))
+        result }
     ensures later { K.faults out.old ≤ K.faults out.new }
 {
     written(write_finished(alloc, out, names, rows), Outcome::Finished)
@@ -61,10 +65,15 @@ fn print_answers<K: Sink, R: Rows>(
     out: &mut K,
 ) -> Outcome
     requires { answers.now.names ≡ names.now }
-    ensures prints { (problem : ProblemValue) (facts : List AtomValue) (budget : ℕ) → IsExact problem (live_queries (R.value rows.now).rows) → ArePrintable names.now (live_queries (R.value rows.now).rows) →
-        AreChaseAnswers names.now problem facts answers.now.tuples → ArePrintableTuples names.now answers.now.tuples →
-        PrintsFor (record { form = Answers; names = names.now; problem = problem; facts = facts; budget = budget })
-        (change_of (K.taken out.old) (K.taken out.new) (K.faults out.old) (K.faults out.new)) result }
+    ensures prints { (problem : ProblemValue) (facts : List AtomValue) (budget : ℕ) →
+        IsExact problem (live_queries (R.value rows.now).rows) →
+        ArePrintable names.now (live_queries (R.value rows.now).rows) →
+        AreChaseAnswers names.now problem facts answers.now.tuples →
+        ArePrintableTuples names.now answers.now.tuples →
+        PrintsFor
+        (record { form = Answers; names = names.now; problem = problem; facts = facts; budget = budget })
+        (change_of (K.taken out.old) (K.taken out.new) (K.faults out.old) (K.faults out.new))
+        result }
     ensures later { K.faults out.old ≤ K.faults out.new }
 {
     written(
@@ -81,10 +90,14 @@ fn print_counts<K: Sink, R: Rows>(
     answers: &Answered,
     out: &mut K,
 ) -> Outcome
-    ensures prints { (problem : ProblemValue) (facts : List AtomValue) (budget : ℕ) → IsExact problem (live_queries (R.value rows.now).rows) → ArePrintable names.now (live_queries (R.value rows.now).rows) →
+    ensures prints { (problem : ProblemValue) (facts : List AtomValue) (budget : ℕ) →
+        IsExact problem (live_queries (R.value rows.now).rows) →
+        ArePrintable names.now (live_queries (R.value rows.now).rows) →
         AreChaseAnswers names.now problem facts answers.now.tuples →
-        PrintsFor (record { form = Counts; names = names.now; problem = problem; facts = facts; budget = budget })
-        (change_of (K.taken out.old) (K.taken out.new) (K.faults out.old) (K.faults out.new)) result }
+        PrintsFor
+        (record { form = Counts; names = names.now; problem = problem; facts = facts; budget = budget })
+        (change_of (K.taken out.old) (K.taken out.new) (K.faults out.old) (K.faults out.new))
+        result }
     ensures later { K.faults out.old ≤ K.faults out.new }
 {
     let text = SummaryText {
@@ -105,10 +118,16 @@ fn print_finished<K: Sink, R: Rows>(
     out: &mut K,
 ) -> Outcome
     requires { answers.now.names ≡ names.now }
-    ensures prints { (problem : ProblemValue) (facts : List AtomValue) (budget : ℕ) → IsExact problem (live_queries (R.value rows.now).rows) → ArePrintable names.now (live_queries (R.value rows.now).rows) →
-        (form ≢ Queries → AreChaseAnswers names.now problem facts answers.now.tuples × ArePrintableTuples names.now answers.now.tuples) →
-        PrintsFor (record { form = form; names = names.now; problem = problem; facts = facts; budget = budget })
-        (change_of (K.taken out.old) (K.taken out.new) (K.faults out.old) (K.faults out.new)) result }
+    ensures prints { (problem : ProblemValue) (facts : List AtomValue) (budget : ℕ) →
+        IsExact problem (live_queries (R.value rows.now).rows) →
+        ArePrintable names.now (live_queries (R.value rows.now).rows) →
+        (form ≢ Queries →
+        AreChaseAnswers names.now problem facts answers.now.tuples
+        × ArePrintableTuples names.now answers.now.tuples) →
+        PrintsFor
+        (record { form = form; names = names.now; problem = problem; facts = facts; budget = budget })
+        (change_of (K.taken out.old) (K.taken out.new) (K.faults out.old) (K.faults out.new))
+        result }
     ensures later { K.faults out.old ≤ K.faults out.new }
 {
     match form {
@@ -124,8 +143,10 @@ fn print_cut<K: Sink>(alloc: Global, names: &Names, store: &Store, out: &mut K) 
     requires cut { IsCut store.now }
     requires held { IsHeldProblem (length names.now) store.now.problem }
     ensures prints { (form : FormValue) (facts : List AtomValue) →
-        PrintsFor (record { form = form; names = names.now; problem = store.now.problem; facts = facts; budget = store.now.budget })
-        (change_of (K.taken out.old) (K.taken out.new) (K.faults out.old) (K.faults out.new)) result }
+        PrintsFor
+        (record { form = form; names = names.now; problem = store.now.problem; facts = facts; budget = store.now.budget })
+        (change_of (K.taken out.old) (K.taken out.new) (K.faults out.old) (K.faults out.new))
+        result }
     ensures later { K.faults out.old ≤ K.faults out.new }
 {
     cut_listing();
@@ -136,10 +157,13 @@ fn print_cut<K: Sink>(alloc: Global, names: &Names, store: &Store, out: &mut K) 
 
 /// Prints what was solved of what is asked.
 fn print_section<K: Sink>(alloc: Global, asked: &Asked, solved: &Solved<'_>, out: &mut K) -> Outcome
-    requires within { IsWithin asked.now }
+    requires within { IsWithinLimits asked.now }
     requires solved { IsSolved asked.now solved.now }
-    ensures prints { (facts : List AtomValue) → IsAbout asked.now facts →
-        PrintsFor (question_in asked.now facts) (change_of (K.taken out.old) (K.taken out.new) (K.faults out.old) (K.faults out.new)) result }
+    ensures prints { (facts : List AtomValue) →
+        IsAbout asked.now facts →
+        PrintsFor (question_in asked.now facts)
+        (change_of (K.taken out.old) (K.taken out.new) (K.faults out.old) (K.faults out.new))
+        result }
     ensures later { K.faults out.old ≤ K.faults out.new }
 {
     answers_are_chase_answers();
@@ -159,10 +183,13 @@ pub fn print_parts<K: Sink>(
     solved: Result<Solved<'_>, NoMemory>,
     out: &mut K,
 ) -> Outcome
-    requires within { IsWithin asked.now }
+    requires within { IsWithinLimits asked.now }
     requires solved { IfOk solved (IsSolved asked.now) }
-    ensures prints { (facts : List AtomValue) → IsAbout asked.now facts →
-        PrintsFor (question_in asked.now facts) (change_of (K.taken out.old) (K.taken out.new) (K.faults out.old) (K.faults out.new)) result }
+    ensures prints { (facts : List AtomValue) →
+        IsAbout asked.now facts →
+        PrintsFor (question_in asked.now facts)
+        (change_of (K.taken out.old) (K.taken out.new) (K.faults out.old) (K.faults out.new))
+        result }
     ensures later { K.faults out.old ≤ K.faults out.new }
 {
     match solved {

@@ -1,5 +1,6 @@
 //! The reading of whole files.
 ghost use Rattle.std.specs.Prelude.{◌≡◌, ◌≤◌, ◌^◌, ◌<◌, ℕ, List, length};
+ghost use Rattle.ucq_lexer.specs.declared.TheConstants.{BYTES};
 ghost use Rattle.ucq_run.specs.inner.Reading.{IsReading};
 
 use std::alloc::Global;
@@ -23,7 +24,7 @@ pub fn read_file<H: Shelf>(
     name: &str,
     room: usize,
 ) -> Result<Vec<u8>, Unread>
-    requires { room ≤ 2 ^ 26 }
+    requires { room ≤ BYTES }
     ensures read { IsReading (H.held shelf.old name.now) (H.faults shelf.old) (H.faults shelf.new) room result }
     ensures held { (n : List ℕ) → H.held shelf.new n ≡ H.held shelf.old n }
     ensures later { H.faults shelf.old ≤ H.faults shelf.new }

@@ -45,7 +45,9 @@ fn too_long_line(alloc: Global, file: u32) -> Result<Vec<u8>, NoMemory>
 /// The sink takes the line, or a prefix of it where it fails. The answer is the status.
 fn tell<E: Sink>(err: &mut E, line: &[u8], status: u8) -> u8
     ensures status { result ≡ status }
-    ensures line { TookLine (record { taken_before = E.taken err.old; taken_after = E.taken err.new; faults_before = E.faults err.old; faults_after = E.faults err.new }) line.now }
+    ensures line { TookLine
+        (record { taken_before = E.taken err.old; taken_after = E.taken err.new; faults_before = E.faults err.old; faults_after = E.faults err.new })
+        line.now }
     ensures later { E.faults err.old ≤ E.faults err.new }
 {
     match write_line(err, line) {
@@ -56,7 +58,9 @@ fn tell<E: Sink>(err: &mut E, line: &[u8], status: u8) -> u8
 
 /// The same with a line that was made, or else that of want of memory.
 fn tell_made<E: Sink>(err: &mut E, line: Result<Vec<u8>, NoMemory>, status: u8) -> u8
-    ensures told { IsTold (record { taken_before = E.taken err.old; taken_after = E.taken err.new; faults_before = E.faults err.old; faults_after = E.faults err.new }) line status result }
+    ensures told { IsTold
+        (record { taken_before = E.taken err.old; taken_after = E.taken err.new; faults_before = E.faults err.old; faults_after = E.faults err.new })
+        line status result }
     ensures later { E.faults err.old ≤ E.faults err.new }
 {
     match line {
@@ -67,7 +71,9 @@ fn tell_made<E: Sink>(err: &mut E, line: Result<Vec<u8>, NoMemory>, status: u8) 
 
 /// Tells the outcome, and answers its status. Where its line takes memory that isn't there, the outcome is want of memory.
 pub fn report<E: Sink>(alloc: Global, err: &mut E, outcome: Outcome) -> u8
-    ensures reported { IsReported (record { taken_before = E.taken err.old; taken_after = E.taken err.new; faults_before = E.faults err.old; faults_after = E.faults err.new }) outcome result }
+    ensures reported { IsReported
+        (record { taken_before = E.taken err.old; taken_after = E.taken err.new; faults_before = E.faults err.old; faults_after = E.faults err.new })
+        outcome result }
     ensures later { E.faults err.old ≤ E.faults err.new }
 {
     match outcome {

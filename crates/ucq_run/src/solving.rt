@@ -3,7 +3,7 @@ ghost use Rattle.std.specs.Prelude.{◌≡◌, IfOk, MatchOption};
 ghost use Rattle.ucq_antichain.specs.Rows.{live_queries};
 ghost use Rattle.ucq_store.specs.Store.{IsFinished};
 ghost use Rattle.ucq_run.specs.declared.form.Form.TheVariants.{Queries};
-ghost use Rattle.ucq_run.specs.inner.Asked.{IsWithin};
+ghost use Rattle.ucq_run.specs.inner.Asked.{IsWithinLimits};
 ghost use Rattle.ucq_run.specs.inner.Solved.{IsSolved};
 
 use crate::asked::Asked;
@@ -27,7 +27,9 @@ pub struct Solved<'p> {
 
 /// The union whose answers are asked for: that of a finished store, where the form has answers.
 fn answered_union(alloc: Global, form: Form, store: &Store) -> Result<Option<Union>, NoMemory>
-    ensures { IfOk result (λ found. MatchOption found (IsFinished store.now → form ≡ Queries) (λ union. union ≡ live_queries store.now.rows)) }
+    ensures { IfOk result (λ found.
+        MatchOption found (IsFinished store.now → form ≡ Queries) (λ union.
+        union ≡ live_queries store.now.rows)) }
 {
     if form == Form::Queries || !store.is_finished() {
         return Ok(None);
@@ -37,7 +39,7 @@ fn answered_union(alloc: Global, form: Form, store: &Store) -> Result<Option<Uni
 
 /// Rewrites the query that is asked with its rules on one thread, and finds the answers.
 pub fn solve_alone<'p>(alloc: Global, asked: &'p Asked) -> Result<Solved<'p>, NoMemory>
-    requires { IsWithin asked.now }
+    requires { IsWithinLimits asked.now }
     ensures { IfOk result (λ solved. IsSolved asked.entry.now solved) }
 {
     let mut space = HomSpace::new(alloc)?;
@@ -57,7 +59,7 @@ pub fn solve_by_crew<'p, G: Gate + Sync, R: Threads + Wait + Sync>(
     asked: &'p Asked,
     gate: &G,
 ) -> Result<Solved<'p>, NoMemory>
-    requires { IsWithin asked.now }
+    requires { IsWithinLimits asked.now }
     ensures { IfOk result (λ solved. IsSolved asked.entry.now solved) }
 {
     if asked.workers == 1 {

@@ -6,7 +6,7 @@ ghost use Rattle.ucq_print.specs.Texts.{answer_lines, summary_lines};
 use std::alloc::Global;
 use ucq_eval::Answers;
 use ucq_print::{
-    Rows, cut_line, cut_line_count, answer_line, answer_line_count, summary_line,
+    Rows, answer_line, answer_line_count, cut_line, cut_line_count, summary_line,
     summary_line_count,
 };
 use ucq_terms::{Names, NoMemory};

@@ -21,7 +21,9 @@ pub enum Unwritten {
 
 /// Pushes a line until it is taken whole.
 pub fn write_line<K: Sink>(sink: &mut K, line: &[u8]) -> Result<(), Failed>
-    ensures taken { IsPushed (change_of (K.taken sink.old) (K.taken sink.new) (K.faults sink.old) (K.faults sink.new)) line.now result }
+    ensures taken { IsPushed
+        (change_of (K.taken sink.old) (K.taken sink.new) (K.faults sink.old) (K.faults sink.new))
+        line.now result }
     ensures later { K.faults sink.old ≤ K.faults sink.new }
     ensures cause { IfErr result (λ _. Rose (K.faults sink.old) (K.faults sink.new)) }
 {
@@ -34,7 +36,11 @@ pub fn write_line<K: Sink>(sink: &mut K, line: &[u8]) -> Result<(), Failed>
 
 /// Writes a line that was made.
 pub fn write_made<K: Sink>(sink: &mut K, line: Result<Vec<u8>, NoMemory>) -> Result<(), Unwritten>
-    ensures written { (text : List ℕ) → IfOk line (λ made. made.items ≡ text) → IsWritten (change_of (K.taken sink.old) (K.taken sink.new) (K.faults sink.old) (K.faults sink.new)) text result }
+    ensures written { (text : List ℕ) →
+        IfOk line (λ made. made.items ≡ text) →
+        IsWritten
+        (change_of (K.taken sink.old) (K.taken sink.new) (K.faults sink.old) (K.faults sink.new))
+        text result }
     ensures later { K.faults sink.old ≤ K.faults sink.new }
 {
     let line = match line {
@@ -49,7 +55,9 @@ pub fn write_made<K: Sink>(sink: &mut K, line: Result<Vec<u8>, NoMemory>) -> Res
 
 /// Makes and writes the lines of a text, one after the other.
 pub fn write_text<K: Sink, T: Text>(alloc: Global, sink: &mut K, text: &T) -> Result<(), Unwritten>
-    ensures written { IsWritten (change_of (K.taken sink.old) (K.taken sink.new) (K.faults sink.old) (K.faults sink.new)) (lines_text (T.lines text.now)) result }
+    ensures written { IsWritten
+        (change_of (K.taken sink.old) (K.taken sink.new) (K.faults sink.old) (K.faults sink.new))
+        (lines_text (T.lines text.now)) result }
     ensures later { K.faults sink.old ≤ K.faults sink.new }
 {
     for place in 0..text.len() {

@@ -10,7 +10,7 @@ use Rattle.ucq_fold.specs.Parts.{IsPartInOrder}
 use Rattle.ucq_antichain.specs.declared.Row.{Row}
 use Rattle.ucq_antichain.specs.declared.Added.{Added as Answer}
 use Rattle.ucq_antichain.specs.declared.Added.TheVariants.{Covered, Full, Added}
-use Rattle.ucq_antichain.specs.Rows.{Kept, IsAdded}
+use Rattle.ucq_antichain.specs.Rows.{AntichainValue, IsAdded}
 use Rattle.ucq_antichain.specs.Calls.{DoesAdd}
 use Rattle.ucq_store.specs.Lawful.{IsSoundCore}
 use Rattle.ucq_store.proofs.Sound.{core_of_query_is_sound}
@@ -61,9 +61,9 @@ one_row q (r ∷ []) added =
     ap₂ (λ (p : Query) (l : Bool). let row : Row = record { query = p; live = l } in row ∷ []) query live
 one_row q (r ∷ s ∷ rest) added = let l : length (r ∷ s ∷ rest) ≡ 0 + 1 = added.one_more in absurd (omega arith)
 
-pub first_row : (budget : ℕ) (core : Query) (answer : Answer) (after : Kept) → 0 < budget → DoesAdd (record { budget = budget; rows = [] }) core answer after →
+pub first_row : (budget : ℕ) (core : Query) (answer : Answer) (after : AntichainValue) → 0 < budget → DoesAdd (record { budget = budget; rows = [] }) core answer after →
     after ≡ record { budget = budget; rows = live_row core ∷ [] }
 first_row budget core (Covered row query) after positive (same, back, first) = let bad = first.live in absurd (cc)
 first_row budget core (Full query) after positive (same, back, fresh, full) = let e : 0 ≡ budget = full in absurd (omega arith)
 first_row budget core (Added row pruned) after positive adds =
-    ap₂ (λ (n : ℕ) (rows : List Row). let k : Kept = record { budget = n; rows = rows } in k) adds.budget (one_row core after.rows adds.added)
+    ap₂ (λ (n : ℕ) (rows : List Row). let k : AntichainValue = record { budget = n; rows = rows } in k) adds.budget (one_row core after.rows adds.added)

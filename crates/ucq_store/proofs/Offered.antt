@@ -2,7 +2,7 @@
 use Rattle.std.proofs.Common.{◌≡◌, ℕ, ◌+◌, ◌<◌, refl, sym, ap, ◌∙◌, List, [], ◌∷◌, ◌++◌, None, Some, length, Option, subst}
 use Rattle.ucq_terms.specs.Syntax.{Query}
 use Rattle.ucq_terms.specs.Query.{IsStored}
-use Rattle.ucq_antichain.specs.Rows.{Kept, SomeLiveCovers}
+use Rattle.ucq_antichain.specs.Rows.{AntichainValue, SomeLiveCovers}
 use Rattle.ucq_antichain.specs.Calls.{AddsRow}
 use Rattle.ucq_store.specs.declared.Mark.{Mark}
 use Rattle.ucq_store.specs.declared.RowState.TheVariants.{Waiting}
@@ -37,11 +37,11 @@ known_is_covered s core None law bad evident = absurd bad
 known_is_covered s core (Some e) law held covers =
     live_covers_on s.rows e.by core (subst (SomeLiveCovers s.rows) held.query (law.rows_are_covered e.row held.row_of)) covers
 
-abbrev pub kept_of : Store → Kept
+abbrev pub kept_of : Store → AntichainValue
 kept_of s = record { budget = s.budget; rows = s.rows }
 
 -- the store with these rows and marks
-abbrev pub with_rows : Store → Kept → List Mark → Store
+abbrev pub with_rows : Store → AntichainValue → List Mark → Store
 with_rows s k marks = record s { budget = k.budget; rows = k.rows; marks = marks }
 
 module _ (s : Store) (c : Candidate) (core : Query) (offered : IsOffered s c) (held : Some core ≡ c.core) where
@@ -66,7 +66,7 @@ module _ (s : Store) (c : Candidate) (core : Query) (offered : IsOffered s c) (h
       known_is_covered s core c.evidence law is (subst (λ (x : Option Query). IsEvident x c.evidence) (sym held) evident) in
       (core, holds_core, (None, ap used offered.fresh.placed_nowhere, (covered, refl)))
 
-  module _ (row pruned : ℕ) (k : Kept) (marks : List Mark) (adds : AddsRow (kept_of s) core row pruned k)
+  module _ (row pruned : ℕ) (k : AntichainValue) (marks : List Mark) (adds : AddsRow (kept_of s) core row pruned k)
       (noted : marks ≡ s.marks ++ record { depth = s.level + 1; state = Waiting } ∷ []) where
     as_adds : Adds s core k.rows
     as_adds = record { uncovered = adds.uncovered; room = subst (λ (n : ℕ). n < s.budget) adds.last adds.room; added = adds.added }

@@ -1,5 +1,6 @@
 //! What a store notes of its rows.
 ghost use Rattle.std.specs.Prelude.{◌≡◌, ◌<◌, ◌≤◌, ◌++◌, ◌∷◌, [], ◌↔◌, ℕ, length, IfOk, IsTrue};
+ghost use Rattle.ucq_terms.specs.declared.TheConstants.{ROWS};
 ghost use Rattle.ucq_antichain.specs.Rows.{IsLiveAt};
 ghost use Rattle.ucq_store.specs.Store.{mark_at, IsInWork};
 ghost use Rattle.ucq_store.specs.inner.Marks.{with_state_at, NoneOpenBelow, IsSettled, AreSettledBelow};
@@ -27,6 +28,7 @@ pub(crate) struct Marks {
 
 impl Model for Marks {
     ghost use Rattle.std.specs.Prelude.{◌≤◌, length};
+    ghost use Rattle.ucq_terms.specs.declared.TheConstants.{ROWS};
     ghost use Rattle.std.specs.Vec.{vec_capacity};
     ghost use Rattle.ucq_store.specs.inner.Marks.{MarkList, NoneOpenBelow, AreSettledBelow};
 
@@ -34,7 +36,12 @@ impl Model for Marks {
 
     ghost view = { λ m. record { items = m.items.items; room = vec_capacity m.items } };
 
-    ghost invariant = { λ m. (length m.items.items ≤ 65536) × AreSettledBelow m.items.items m.settled × NoneOpenBelow m.items.items m.open_from };
+    ghost invariant = {
+        λ m.
+            (length m.items.items ≤ ROWS)
+            × AreSettledBelow m.items.items m.settled
+            × NoneOpenBelow m.items.items m.open_from
+    };
 }
 
 impl Marks {
@@ -61,7 +68,7 @@ impl Marks {
     /// Adds a mark for which there is room.
     pub(crate) fn push(&mut self, mark: Mark)
         requires room { length self.old.items < self.old.room }
-        requires few { length self.old.items < 65536 }
+        requires few { length self.old.items < ROWS }
         ensures items { self.new.items ≡ self.old.items ++ mark ∷ [] }
         ensures room { self.old.room ≤ self.new.room }
     {
@@ -106,7 +113,12 @@ impl Marks {
 
     /// Whether a row is open or claimed.
     pub(crate) fn is_any_in_work(&self) -> bool
-        ensures { IsTrue result ↔ ((row : ℕ) × (row < length self.now.items) × IsInWork (mark_at self.now.items row).state) }
+        ensures {
+            IsTrue result
+            ↔ ((row : ℕ)
+               × (row < length self.now.items)
+               × IsInWork (mark_at self.now.items row).state)
+        }
     {
         for row in self.settled..self.items.len() {
             if is_in_work(self.items[row].state) {
@@ -119,7 +131,13 @@ impl Marks {
     /// Whether a live row waits.
     pub(crate) fn does_any_wait(&self, antichain: &Antichain) -> bool
         requires { length self.now.items ≡ length antichain.now.rows }
-        ensures { IsTrue result ↔ ((row : ℕ) × (row < length antichain.now.rows) × IsLiveAt antichain.now.rows row × ((mark_at self.now.items row).state ≡ RowState.Waiting)) }
+        ensures {
+            IsTrue result
+            ↔ ((row : ℕ)
+               × (row < length antichain.now.rows)
+               × IsLiveAt antichain.now.rows row
+               × ((mark_at self.now.items row).state ≡ RowState.Waiting))
+        }
     {
         for row in self.settled..self.items.len() {
             if self.items[row].state == RowState::Waiting && antichain.is_live(row as u32) {
@@ -143,7 +161,7 @@ impl Marks {
 
 // The first open row, where none before `from` is open.
 fn first_open_from(marks: &[Mark], from: usize) -> Option<u32>
-    requires few { length marks.now ≤ 65536 }
+    requires few { length marks.now ≤ ROWS }
     requires none { NoneOpenBelow marks.now from }
     ensures { FindsOpen marks.now result }
 {
@@ -169,7 +187,7 @@ fn reopen_from(marks: &mut [Mark], from: usize)
 fn raise_from(marks: &mut [Mark], from: usize, antichain: &Antichain)
     requires settled { AreSettledBelow marks.old from }
     requires length { length marks.old ≡ length antichain.now.rows }
-    requires few { length marks.old ≤ 65536 }
+    requires few { length marks.old ≤ ROWS }
     ensures { IsRaised antichain.now.rows marks.old marks.new }
 {
     for row in from..marks.len() {

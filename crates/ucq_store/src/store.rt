@@ -1,5 +1,6 @@
 //! The store.
 ghost use Rattle.std.specs.Prelude.{◌≡◌, ◌<◌, ◌≤◌, length, vec_len, MatchOption, IfOk, IfSome, IsTrue, ◌↔◌, Some, None, false};
+ghost use Rattle.ucq_terms.specs.declared.TheConstants.{ROWS};
 ghost use Rattle.ucq_terms.specs.Homomorphism.{IsCoreOf};
 ghost use Rattle.ucq_terms.specs.Union.{IsExact};
 ghost use Rattle.ucq_hom.specs.Space.{IsClear};
@@ -34,14 +35,39 @@ pub struct Store<'p> {
 
 impl<'p> Model for Store<'p> {
     ghost use Rattle.std.specs.Prelude.{◌≤◌};
+    ghost use Rattle.ucq_terms.specs.declared.TheConstants.{ROWS};
     ghost use Rattle.ucq_store.specs.Store.{Store as StoreValue};
     ghost use Rattle.ucq_store.specs.Lawful.{IsLawfulByLevels};
 
     ghost Value = { StoreValue };
 
-    ghost view = { λ s. record { problem = s.problem.now; budget = s.antichain.budget; rows = s.antichain.rows; marks = s.marks.items; level = s.level; claims = s.claims; cut = s.cut } };
+    ghost view = {
+        λ s.
+            record {
+                problem = s.problem.now;
+                budget = s.antichain.budget;
+                rows = s.antichain.rows;
+                marks = s.marks.items;
+                level = s.level;
+                claims = s.claims;
+                cut = s.cut;
+            }
+    };
 
-    ghost invariant = { λ s. IsLawfulByLevels (record { problem = s.problem.now; budget = s.antichain.budget; rows = s.antichain.rows; marks = s.marks.items; level = s.level; claims = s.claims; cut = s.cut }) × (s.antichain.budget ≤ 65536) × (s.antichain.budget ≤ s.marks.room) };
+    ghost invariant = {
+        λ s.
+            IsLawfulByLevels (record {
+                problem = s.problem.now;
+                budget = s.antichain.budget;
+                rows = s.antichain.rows;
+                marks = s.marks.items;
+                level = s.level;
+                claims = s.claims;
+                cut = s.cut;
+            })
+            × (s.antichain.budget ≤ ROWS)
+            × (s.antichain.budget ≤ s.marks.room)
+    };
 }
 
 impl<'p> Store<'p> {
@@ -53,7 +79,7 @@ impl<'p> Store<'p> {
         budget: u32,
     ) -> Result<Store<'p>, NoMemory>
         requires some { 0 < budget }
-        requires small { budget ≤ 65536 }
+        requires small { budget ≤ ROWS }
         ensures new { IfOk result (λ s. IsNew problem.now budget s) }
         ensures clear { IsClear space.new }
     {
@@ -87,7 +113,7 @@ impl<'p> Store<'p> {
     /// The most rows that there may be.
     pub fn budget(&self) -> u32
         ensures budget { result ≡ self.now.budget }
-        ensures small { result ≤ 65536 }
+        ensures small { result ≤ ROWS }
     {
         let _ = &self.level;
         self.antichain.budget()
@@ -118,7 +144,9 @@ impl<'p> Store<'p> {
 
     /// The cut, if the store is cut.
     pub fn cut(&self) -> Option<&Cut>
-        ensures cut { MatchOption result (self.now.cut ≡ None) (λ cut. self.now.cut ≡ Some cut.now) }
+        ensures cut {
+            MatchOption result (self.now.cut ≡ None) (λ cut. self.now.cut ≡ Some cut.now)
+        }
         ensures lawful { IsLawfulByLevels self.now }
     {
         self.cut.as_ref()
@@ -357,7 +385,7 @@ impl<'p> Store<'p> {
 // Copies of the queries of the live rows, in order.
 fn live_copies(alloc: Global, antichain: &Antichain) -> Result<Vec<Query>, NoMemory>
     ensures live { IfOk result (λ live. live.items ≡ live_queries antichain.now.rows) }
-    ensures few { IfOk result (λ live. vec_len live ≤ 65536) }
+    ensures few { IfOk result (λ live. vec_len live ≤ ROWS) }
 {
     let mut live = Vec::new(alloc);
     for row in 0..antichain.len() {

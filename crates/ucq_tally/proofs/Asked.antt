@@ -2,9 +2,9 @@
 use Rattle.std.proofs.Common.{◌≡◌, ℕ, Bool, List, length, ap, arith}
 use Rattle.std.specs.Prelude.{Option, Some, None}
 use Rattle.ucq_words.specs.Settings.{IsJob, JobValue, files, make, SettingsValue, StandFor}
-use Rattle.ucq_tally.specs.inner.Asked.{IsWithin}
+use Rattle.ucq_tally.specs.inner.Asked.{IsWithinLimits}
 
-job_of_digits : (digits : Option (List ℕ)) (given : List (List ℕ)) (answers : Bool) (job : JobValue) → IsJob digits given answers job → IsWithin job
+job_of_digits : (digits : Option (List ℕ)) (given : List (List ℕ)) (answers : Bool) (job : JobValue) → IsJob digits given answers job → IsWithinLimits job
 job_of_digits None given answers (files listed) is =
     let same : length listed ≡ length given = ap length is.same in
     let some = is.some in
@@ -14,5 +14,5 @@ job_of_digits None given answers (make number) is = absurd is
 job_of_digits (Some digits) given answers (files listed) is = absurd is
 job_of_digits (Some digits) given answers (make number) is = (is.spelled.low, is.spelled.high)
 
-pub job_within : (words : List (List ℕ)) (v : SettingsValue) → StandFor words v → IsWithin v.job
+pub job_within : (words : List (List ℕ)) (v : SettingsValue) → StandFor words v → IsWithinLimits v.job
 job_within words v stand = job_of_digits _ _ v.answers v.job stand.settings.job

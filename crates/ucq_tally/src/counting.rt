@@ -1,5 +1,6 @@
 //! How many rewritings a run tries.
 ghost use Rattle.std.specs.Prelude.{◌<◌, ◌≤◌, IfOk, length};
+ghost use Rattle.ucq_terms.specs.declared.TheConstants.{ROWS};
 ghost use Rattle.ucq_store.specs.Store.{IsRow, query_of, state_of};
 ghost use Rattle.ucq_tally.specs.inner.Sums.{IsSaturated};
 ghost use Rattle.ucq_tally.specs.inner.Counts.{HasRewritings, HasRewritingsWithAll, AddsRewritings, HasTried, IsTally};
@@ -50,7 +51,10 @@ fn rewritings_with_all(alloc: Global, query: &Query, rules: &[Rule]) -> Result<u
 /// How many rewritings were tried of a row. A row that is claimed, when the run has ended, is one that cut the store.
 fn rewritings_of_row(alloc: Global, store: &Store, row: u32) -> Result<u64, NoMemory>
     requires { IsRow store.now row }
-    ensures { IfOk result (λ n. IsSaturated (AddsRewritings store.now.problem.rules (state_of store.now row) (query_of store.now row)) n) }
+    ensures { IfOk result (λ n.
+        IsSaturated
+        (AddsRewritings store.now.problem.rules (state_of store.now row) (query_of store.now row))
+        n) }
 {
     match store.state_of(row) {
         RowState::Done | RowState::Claimed { number: _ } => {
@@ -74,7 +78,7 @@ pub fn rewritings_of_store(alloc: Global, store: &Store) -> Result<u64, NoMemory
 /// The tally of a run of the problem on one thread. The budget is 1 to 65,536.
 pub fn tally_of(alloc: Global, problem: &Problem, budget: u32) -> Result<Tally, NoMemory>
     requires some { 0 < budget }
-    requires small { budget ≤ 65536 }
+    requires small { budget ≤ ROWS }
     ensures { IfOk result (λ tally. IsTally problem.now budget tally) }
 {
     let mut space = HomSpace::new(alloc)?;

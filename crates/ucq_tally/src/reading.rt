@@ -1,34 +1,33 @@
 //! The input that words ask for.
 ghost use Rattle.std.specs.Prelude.{◌≡◌, ◌<◌, ◌≤◌, ◌+◌, ◌^◌, IfOk, length, vec_len};
+ghost use Rattle.ucq_terms.specs.declared.TheConstants.{RULES};
 ghost use Rattle.ucq_reader.specs.Outcome.{byte_count, input_value, texts};
 ghost use Rattle.ucq_words.specs.Settings.{job_value};
-ghost use Rattle.ucq_tally.specs.inner.Asked.{IsWithin};
+ghost use Rattle.ucq_tally.specs.inner.Asked.{IsWithinLimits};
 
 use crate::faults::{Fault, refusal};
 use std::io::{ErrorKind, Read};
 use std::{fs, io};
+use ucq_lexer::BYTES;
 use ucq_reader::{Input, made_input, read_files};
 use ucq_words::Job;
-
-/// The most bytes that all files have together.
-const MOST: usize = 67_108_864;
 
 /// The bytes of a file up to one more than all files may have.
 fn read_some(rt: &HostRuntime, name: &str) -> io::Result<Vec<u8>> {
     let mut bytes = Vec::new(rt.alloc());
     fs::open(rt, name)?
-        .take(MOST as u64 + 1)
+        .take(BYTES as u64 + 1)
         .read_to_end(&mut bytes)?;
     Ok(bytes)
 }
 
 /// The bytes of the file of this name and number, after so many bytes of those before it.
 fn read_next(rt: &HostRuntime, file: u32, name: &str, total: usize) -> Result<Vec<u8>, Fault>
-    requires { total ≤ 2 ^ 26 }
-    ensures { IfOk result (λ bytes. total + vec_len bytes ≤ 2 ^ 26) }
+    requires { total ≤ BYTES }
+    ensures { IfOk result (λ bytes. total + vec_len bytes ≤ BYTES) }
 {
     match read_some(rt, name) {
-        Ok(bytes) if bytes.len() <= MOST - total => Ok(bytes),
+        Ok(bytes) if bytes.len() <= BYTES - total => Ok(bytes),
         Ok(_) => Err(Fault::TooLong { file }),
         Err(error) => match error.kind() {
             ErrorKind::OutOfMemory => Err(Fault::Memory),
@@ -41,7 +40,7 @@ fn read_next(rt: &HostRuntime, file: u32, name: &str, total: usize) -> Result<Ve
 fn read_all(rt: &HostRuntime, names: &[String]) -> Result<Vec<Vec<u8>>, Fault>
     requires { length names.now ≤ 64 }
     ensures many { IfOk result (λ files. vec_len files ≡ length names.now) }
-    ensures small { IfOk result (λ files. byte_count (texts files.items) ≤ 2 ^ 26) }
+    ensures small { IfOk result (λ files. byte_count (texts files.items) ≤ BYTES) }
 {
     let mut files = Vec::new(rt.alloc());
     let mut total: usize = 0;
@@ -55,8 +54,8 @@ fn read_all(rt: &HostRuntime, names: &[String]) -> Result<Vec<Vec<u8>>, Fault>
 
 /// The input of the job: read from its files, or made.
 pub fn input_of(rt: &HostRuntime, job: &Job) -> Result<Input, Fault>
-    requires { IsWithin (job_value job.now) }
-    ensures { IfOk result (λ input. length (input_value input).rules ≤ 4096) }
+    requires { IsWithinLimits (job_value job.now) }
+    ensures { IfOk result (λ input. length (input_value input).rules ≤ RULES) }
 {
     match job {
         Job::Files(names) => {

@@ -52,7 +52,8 @@ impl Names {
 
     /// The number of the text, where it is held.
     pub fn find(&self, text: &[u8]) -> Option<u32>
-        ensures held { MatchOption result (Contains self.now text.now → ⊥) (λ n. slice_get self.now n ≡ Some text.now) }
+        ensures held { MatchOption result (Contains self.now text.now → ⊥) (λ n.
+            slice_get self.now n ≡ Some text.now) }
         ensures number { IfSome result (λ n. n ≡ number_of self.now text.now) }
     {
         let place = self.texts.get_index_of(text)?;

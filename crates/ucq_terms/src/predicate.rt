@@ -89,7 +89,10 @@ impl Hash for Atom {
 
     ghost hash_input = { λ a. fed.u32 a.name ++ fed.slice ⟦<Term as Hash>⟧.hash_input a.terms };
 
-    ghost respects_eq = { λ a b e. ap (λ x. fed.u32 x.name ++ fed.slice ⟦<Term as Hash>⟧.hash_input x.terms) ((Decides-atom_eq a b).0 e) };
+    ghost respects_eq = { λ a b e.
+        ap
+        (λ x. fed.u32 x.name ++ fed.slice ⟦<Term as Hash>⟧.hash_input x.terms)
+        ((Decides-atom_eq a b).0 e) };
 
     fn hash<H: Hasher>(&self, state: &mut H) {
         self.name.hash(state);

@@ -1,5 +1,6 @@
 //! Problems.
 ghost use Rattle.std.specs.Prelude.{◌≡◌, ◌≤◌, ◌↔◌, length, vec_len, IsTrue};
+ghost use Rattle.ucq_terms.specs.declared.TheConstants.{RULES};
 
 use crate::{Query, Rule};
 use std::marker::Model;
@@ -13,19 +14,20 @@ pub struct Problem {
 
 impl Model for Problem {
     ghost use Rattle.std.specs.Prelude.{◌≤◌, length};
+    ghost use Rattle.ucq_terms.specs.declared.TheConstants.{RULES};
     ghost use Rattle.ucq_terms.specs.Syntax.{Problem as ProblemValue};
 
     ghost Value = { ProblemValue };
 
     ghost view = { λ p. record { rules = p.rules.items; query = p.query } };
 
-    ghost invariant = { λ p. length p.rules.items ≤ 4096 };
+    ghost invariant = { λ p. length p.rules.items ≤ RULES };
 }
 
 impl Problem {
     /// The problem of these rules, of which there are at most 4,096, and this query.
     pub fn new(rules: Vec<Rule>, query: Query) -> Problem
-        requires { vec_len rules ≤ 4096 }
+        requires { vec_len rules ≤ RULES }
         ensures { result ≡ record { rules = rules.items; query = query } }
     {
         Problem { rules, query }
@@ -34,7 +36,7 @@ impl Problem {
     /// The rules, in order.
     pub fn rules(&self) -> &[Rule]
         ensures rules { result.now ≡ self.now.rules }
-        ensures few { length result.now ≤ 4096 }
+        ensures few { length result.now ≤ RULES }
     {
         self.rules.as_slice()
     }

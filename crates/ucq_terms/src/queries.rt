@@ -77,9 +77,11 @@ impl Query {
         requires few_answers { vec_len answers ≤ 16 }
         requires some { 0 < vec_len atoms }
         requires few { vec_len atoms < 2 ^ 32 }
-        ensures query { IfOk result (λ q. q ≡ normal_query (record { answers = answers.items; atoms = atoms.items })) }
+        ensures query { IfOk result (λ q.
+            q ≡ normal_query (record { answers = answers.items; atoms = atoms.items })) }
         ensures stored { IfOk result IsStored }
-        ensures fault { IfErr result (λ f. IsQueryFault (record { answers = answers.items; atoms = atoms.items }) f) }
+        ensures fault { IfErr result (λ f.
+            IsQueryFault (record { answers = answers.items; atoms = atoms.items }) f) }
     {
         if let Some(place) = first_loose(answers.as_slice(), atoms.as_slice()) {
             return Err(QueryFault::Unsafe { place });
@@ -189,7 +191,8 @@ fn numbered(alloc: Global, mut answers: Vec<Term>, mut atoms: Vec<Atom>) -> Resu
     requires once { HasEachOnce atoms.items }
     requires few_answers { vec_len answers ≤ 16 }
     requires few_atoms { vec_len atoms ≤ ATOMS }
-    ensures query { IfOk result (λ q. q ≡ numbered_query (record { answers = answers.items; atoms = atoms.items })) }
+    ensures query { IfOk result (λ q.
+        q ≡ numbered_query (record { answers = answers.items; atoms = atoms.items })) }
     ensures stored { IfOk result IsStored }
 {
     number(alloc, answers.as_mut_slice(), atoms.as_mut_slice())?;
@@ -200,7 +203,11 @@ fn numbered(alloc: Global, mut answers: Vec<Term>, mut atoms: Vec<Atom>) -> Resu
 fn number(alloc: Global, answers: &mut [Term], atoms: &mut [Atom]) -> Result<(), NoMemory>
     requires few_answers { length answers.old ≤ 16 }
     requires few_atoms { length atoms.old ≤ ATOMS }
-    ensures { OnOk result (IsNumberedFrom (record { answers = answers.old; atoms = atoms.old }) (record { answers = answers.new; atoms = atoms.new })) }
+    ensures { OnOk
+        result
+        (IsNumberedFrom
+        (record { answers = answers.old; atoms = atoms.old })
+        (record { answers = answers.new; atoms = atoms.new })) }
 {
     let mut order = IndexSet::with_capacity(alloc, answers.len() + term_count(atoms))?;
     number_terms(&mut order, answers)?;

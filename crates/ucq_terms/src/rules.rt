@@ -98,7 +98,11 @@ impl Eq for Rule {
 fn number(alloc: Global, heads: &mut [Atom], body: &mut [Atom]) -> Result<(), NoMemory>
     requires few_heads { length heads.old ≤ 32 }
     requires few_body { length body.old ≤ 32 }
-    ensures { OnOk result (IsNumberedRule (record { heads = heads.old; body = body.old }) (record { heads = heads.new; body = body.new })) }
+    ensures { OnOk
+        result
+        (IsNumberedRule
+        (record { heads = heads.old; body = body.old })
+        (record { heads = heads.new; body = body.new })) }
 {
     let mut order = IndexSet::with_capacity(alloc, term_count(heads) + term_count(body))?;
     number_atoms(&mut order, heads)?;

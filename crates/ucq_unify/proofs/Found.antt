@@ -7,7 +7,7 @@ use Rattle.ucq_terms.specs.Unifier.{links, KeepsPredicate, IsPieceUnifier, IsSin
 use Rattle.ucq_terms.proofs.Lists.{Contains-first, Contains-cons_cases, Contains-empty, first_element}
 use Rattle.ucq_terms.proofs.Pairwise.{AllPairs-append}
 use Rattle.ucq_unify.specs.Pieces.{AreSinglePieces}
-use Rattle.ucq_unify.specs.inner.Growing.{pairs_of, head_at, with_head, IsWithin, StartsAt, IsGrown, IsCalledFor, HasClash, IsSearched, IsBranched, IsRooted}
+use Rattle.ucq_unify.specs.inner.Growing.{pairs_of, head_at, with_head, ChoosesAmong, StartsAt, IsGrown, IsCalledFor, HasClash, IsSearched, IsBranched, IsRooted}
 use Rattle.ucq_unify.proofs.Choices.{rises_from_rising, same_pair, least_pair, with_head-cases, with_head-older, with_head-newest}
 use Rattle.ucq_unify.proofs.Growth.{grown_single, piece_is_choice, called_for, clash_blocks}
 
@@ -20,7 +20,7 @@ one_differs piece = λ i j d a b. absurd (omega (arith, a, b))
 
 -- What one choice leads to.
 pub searched_none : (q : Query) (rule : Rule) (root : ℕ) (choice : List (Option ℕ)) →
-    ((piece : List (ℕ × ℕ)) → IsPieceUnifier q rule piece → IsWithin choice piece → StartsAt root piece → ⊥) → IsSearched q rule root choice []
+    ((piece : List (ℕ × ℕ)) → IsPieceUnifier q rule piece → ChoosesAmong choice piece → StartsAt root piece → ⊥) → IsSearched q rule root choice []
 searched_none q rule root choice f = record {
   single = λ p c. absurd (Contains-empty p c);
   has = λ p c. absurd (Contains-empty p c);
@@ -35,7 +35,7 @@ pub searched_low : (q : Query) (rule : Rule) (root : ℕ) (choice : List (Option
     IsCalledFor q rule choice place → IsSearched q rule root choice []
 searched_low q rule root choice place l low c = searched_none q rule root choice (λ p U w r. no_room p U w r)
   where
-    no_room : (piece : List (ℕ × ℕ)) → IsPieceUnifier q rule piece → IsWithin choice piece → StartsAt root piece → ⊥
+    no_room : (piece : List (ℕ × ℕ)) → IsPieceUnifier q rule piece → ChoosesAmong choice piece → StartsAt root piece → ⊥
     no_room piece U w r =
         let (head, i) = called_for q rule choice place piece U w l c in
         let k : root ≤ place = r.each (place, head) i in
@@ -45,7 +45,7 @@ pub searched_closed : (q : Query) (rule : Rule) (root : ℕ) (choice : List (Opt
     IsSearched q rule root choice (pairs_of choice ∷ [])
 searched_closed q rule root choice g U = record {
   single = λ p c. subst (IsSinglePiece q rule) (is p c) (grown_single q rule root choice g U);
-  has = λ p c. subst (λ (x : List (ℕ × ℕ)). IsWithin choice x × StartsAt root x) (is p c) (record { each = λ z i. i }, g.root_least);
+  has = λ p c. subst (λ (x : List (ℕ × ℕ)). ChoosesAmong choice x × StartsAt root x) (is p c) (record { each = λ z i. i }, g.root_least);
   whole =
       λ p s w r. subst (λ (x : List (ℕ × ℕ)). Contains (pairs_of choice ∷ []) x) (sym (piece_is_choice q rule choice U p s w))
       (Contains-first (pairs_of choice) []);
@@ -64,7 +64,7 @@ searched_open q rule root choice place pieces l c b = record {
   once = b.once;
 }
   where
-    whole : (piece : List (ℕ × ℕ)) → IsSinglePiece q rule piece → IsWithin choice piece → StartsAt root piece → Contains pieces piece
+    whole : (piece : List (ℕ × ℕ)) → IsSinglePiece q rule piece → ChoosesAmong choice piece → StartsAt root piece → Contains pieces piece
     whole piece s w r =
         let (head, i) = called_for q rule choice place piece s.unifier w l c in
         b.whole piece head s w r (s.unifier.matching.each (place, head) i).in_head i
@@ -96,13 +96,13 @@ branched_skip q rule root choice place tried pieces n b = record {
 module _ (q : Query) (rule : Rule) (root : ℕ) (choice : List (Option ℕ)) (place tried : ℕ) (pieces more : List (List (ℕ × ℕ)))
     (l : place < length choice) (free : head_at choice place ≡ None) (b : IsBranched q rule root choice place tried pieces)
     (s : IsSearched q rule root (with_head choice place tried) more) where
-  older : (piece : List (ℕ × ℕ)) → IsWithin (with_head choice place tried) piece → IsWithin choice piece
+  older : (piece : List (ℕ × ℕ)) → ChoosesAmong (with_head choice place tried) piece → ChoosesAmong choice piece
   older piece w = record { each = λ p i. w.each p (with_head-older choice place tried p free i) }
 
-  newest : (piece : List (ℕ × ℕ)) → IsWithin (with_head choice place tried) piece → Contains {X = ℕ × ℕ} piece (place, tried)
+  newest : (piece : List (ℕ × ℕ)) → ChoosesAmong (with_head choice place tried) piece → Contains {X = ℕ × ℕ} piece (place, tried)
   newest piece w = w.each (place, tried) (with_head-newest choice place tried l)
 
-  with_newest : (piece : List (ℕ × ℕ)) → IsWithin choice piece → Contains {X = ℕ × ℕ} piece (place, tried) → IsWithin (with_head choice place tried) piece
+  with_newest : (piece : List (ℕ × ℕ)) → ChoosesAmong choice piece → Contains {X = ℕ × ℕ} piece (place, tried) → ChoosesAmong (with_head choice place tried) piece
   with_newest piece w i = record {
     each = λ p j. ⊎_elim (λ e. subst (λ (z : ℕ × ℕ). Contains piece z) (sym e) i) (λ k. w.each p k) (with_head-cases choice place tried p j);
   }
@@ -161,7 +161,7 @@ module _ (q : Query) (rule : Rule) (tried : ℕ) (empty : List (Option ℕ)) (pi
             let here : pair ≡ (tried, pair.1) = λ n. (e n, pair.1) in
             let i' : Contains {X = ℕ × ℕ} piece (tried, pair.1) = subst (λ (y : ℕ × ℕ). Contains piece y) here i in
             let starts : StartsAt tried piece = record { each = λ y c. (let n : z.0 ≤ y.0 = least y c in omega arith) } in
-            let within : IsWithin empty piece = record { each = λ y c. absurd (none y c) } in
+            let within : ChoosesAmong empty piece = record { each = λ y c. absurd (none y c) } in
             Contains-append_right pieces more piece (b.whole piece pair.1 s within starts (s.unifier.matching.each pair i).in_head i')
       ]
 

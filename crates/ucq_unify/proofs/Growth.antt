@@ -16,7 +16,7 @@ use Rattle.ucq_terms.proofs.Matched.{Contains-from_links, Contains-links, link_r
 use Rattle.ucq_terms.proofs.Places.{Contains-from_places, Contains-places, Contains-unmatched, Contains-from_unmatched, place_from_true, true_from_place}
 use Rattle.ucq_terms.proofs.Subsets.{OccursIn-from_atom, OccursIn-atom}
 use Rattle.ucq_terms.proofs.Touched.{Touches, touches_too, touches_from, passing, passing_unifies, passes_too}
-use Rattle.ucq_unify.specs.inner.Growing.{pairs_of, head_at, with_head, IsWithin, IsAlike, IsGrown, Clashes, HasClash, IsCalledFor}
+use Rattle.ucq_unify.specs.inner.Growing.{pairs_of, head_at, with_head, ChoosesAmong, IsAlike, IsGrown, Clashes, HasClash, IsCalledFor}
 use Rattle.ucq_unify.proofs.Connected.{connected_single}
 use Rattle.ucq_unify.proofs.Choices.{head-no_place, with_head-cases, with_head-older, with_head-newest, Rises, rises_from_rising, pairs_rise, same_pair, same_pairs}
 
@@ -36,7 +36,7 @@ links_more q rule part pairs f l c =
     (Contains-links q 0 rule pairs r.0 k.left k.right (f r.0 r.1) k.at)
 
 -- what the choice joins is joined in each list that has its pairs
-pub joined_within : (q : Query) (rule : Rule) (choice : List (Option ℕ)) (pairs : List (ℕ × ℕ)) → IsWithin choice pairs → {x y : Node} →
+pub joined_within : (q : Query) (rule : Rule) (choice : List (Option ℕ)) (pairs : List (ℕ × ℕ)) → ChoosesAmong choice pairs → {x y : Node} →
     AreJoined (links q 0 rule (pairs_of choice)) x y → AreJoined (links q 0 rule pairs) x y
 joined_within q rule choice pairs w j = AreJoined-more (links_more q rule (pairs_of choice) pairs w.each) j
 
@@ -45,7 +45,7 @@ pub grown_single : (q : Query) (rule : Rule) (root : ℕ) (choice : List (Option
     IsSinglePiece q rule (pairs_of choice)
 grown_single q rule root choice g U =
     let P = pairs_of choice in
-    let all : IsWithin choice P = record { each = λ p c. c } in
+    let all : ChoosesAmong choice P = record { each = λ p c. c } in
     let (first, i) = first_element P U.matching.nonempty in
     connected_single q rule P U (record {
       root = first;
@@ -55,7 +55,7 @@ grown_single q rule root choice g U =
 
 -- A single piece that has the pairs of a choice that is a piece-unifier has no others.
 module _ (q : Query) (rule : Rule) (choice : List (Option ℕ)) (U : IsPieceUnifier q rule (pairs_of choice)) (piece : List (ℕ × ℕ))
-    (S : IsSinglePiece q rule piece) (w : IsWithin choice piece) where
+    (S : IsSinglePiece q rule piece) (w : ChoosesAmong choice piece) where
   chosen : ℕ → Bool
   chosen place = is_place (pairs_of choice) place
 
@@ -112,7 +112,7 @@ module _ (q : Query) (rule : Rule) (choice : List (Option ℕ)) (U : IsPieceUnif
 
 -- A piece-unifier that has the choice's pairs has a pair at each place that they call for.
 pub called_for : (q : Query) (rule : Rule) (choice : List (Option ℕ)) (place : ℕ) (pairs : List (ℕ × ℕ)) → IsPieceUnifier q rule pairs →
-    IsWithin choice pairs → place < length q.atoms → IsCalledFor q rule choice place → (head : ℕ) × Contains {X = ℕ × ℕ} pairs (place, head)
+    ChoosesAmong choice pairs → place < length q.atoms → IsCalledFor q rule choice place → (head : ℕ) × Contains {X = ℕ × ℕ} pairs (place, head)
 called_for q rule choice place pairs U w l c = elim (dec_contains ℕ_discrete (places pairs) place) [
   | yes i ↦
       let (pair, j, e) = Contains-from_places pairs place i in
@@ -128,12 +128,12 @@ called_for q rule choice place pairs U w l c = elim (dec_contains ℕ_discrete (
 
 -- constants that the choice's pairs join are joined by all piece-unifiers that have them
 pub unlike_blocks : (q : Query) (rule : Rule) (choice : List (Option ℕ)) (pairs : List (ℕ × ℕ)) → (HasNoClash (links q 0 rule (pairs_of choice)) → ⊥) →
-    IsPieceUnifier q rule pairs → IsWithin choice pairs → ⊥
+    IsPieceUnifier q rule pairs → ChoosesAmong choice pairs → ⊥
 unlike_blocks q rule choice pairs h U w = h (λ c d j. U.no_clash c d (joined_within q rule choice pairs w j))
 
 -- a clash of the choice's pairs is one of all piece-unifiers that have them
 pub clash_blocks : (q : Query) (rule : Rule) (choice : List (Option ℕ)) (pairs : List (ℕ × ℕ)) → HasClash q rule (links q 0 rule (pairs_of choice)) → IsPieceUnifier q rule pairs →
-    IsWithin choice pairs → ⊥
+    ChoosesAmong choice pairs → ⊥
 clash_blocks q rule choice pairs h U w = go h.left h.right (joined_within q rule choice pairs w h.joined) h.clashes
   where
     copies : (v n w : ℕ) → (of_copy n w ≡ of_copy 0 v) ⊎ IsNonSeparating q pairs (of_copy n w) → v ≢ w → ⊥
@@ -199,10 +199,10 @@ grown_more q rule root choice place head g r free l c k = record {
   together = λ pairs f U w a pair i. together pairs f U w a pair (with_head-cases choice place head pair i);
 }
   where
-    older : (pairs : List (ℕ × ℕ)) → IsWithin (with_head choice place head) pairs → IsWithin choice pairs
+    older : (pairs : List (ℕ × ℕ)) → ChoosesAmong (with_head choice place head) pairs → ChoosesAmong choice pairs
     older pairs w = record { each = λ p i. w.each p (with_head-older choice place head p free i) }
 
-    newest : (pairs : List (ℕ × ℕ)) (f : ℕ → Bool) → IsPieceUnifier q rule pairs → IsWithin (with_head choice place head) pairs → IsAlike q rule pairs f →
+    newest : (pairs : List (ℕ × ℕ)) (f : ℕ → Bool) → IsPieceUnifier q rule pairs → ChoosesAmong (with_head choice place head) pairs → IsAlike q rule pairs f →
         f place ≡ f root
     newest pairs f U w a =
         let v = c.private_variable.variable in
@@ -215,7 +215,7 @@ grown_more q rule root choice place head g r free l c k = record {
         let (b, j, s) = touches_from q rule pairs U (pairs_of choice) o.each (links_more q rule (pairs_of choice) pairs o.each) v u e c.private_variable.joined in
         a.same (place, head) b u i (o.each b j) t s ∙ g.together pairs f U o a b j
 
-    together : (pairs : List (ℕ × ℕ)) (f : ℕ → Bool) → IsPieceUnifier q rule pairs → IsWithin (with_head choice place head) pairs → IsAlike q rule pairs f →
+    together : (pairs : List (ℕ × ℕ)) (f : ℕ → Bool) → IsPieceUnifier q rule pairs → ChoosesAmong (with_head choice place head) pairs → IsAlike q rule pairs f →
         (pair : ℕ × ℕ) → (pair ≡ (place, head)) ⊎ Contains (pairs_of choice) pair → f pair.0 ≡ f root
     together pairs f U w a pair (inl e) = ap (λ (p : ℕ × ℕ). f p.0) e ∙ newest pairs f U w a
     together pairs f U w a pair (inr i) = g.together pairs f U (older pairs w) a pair i

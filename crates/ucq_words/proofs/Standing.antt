@@ -5,22 +5,22 @@ use Rattle.clap.specs.Walk.{Row, Text, first_of}
 use Rattle.clap.specs.Takes.{is_given}
 use Rattle.ucq_words.specs.declared.WordsFault.{WordsFault}
 use Rattle.ucq_words.specs.declared.WordsFault.TheVariants.{BadWords, Memory}
-use Rattle.ucq_words.specs.Command.{IsTaken, files_in}
+use Rattle.ucq_words.specs.Command.{AreMatched, files_in}
 use Rattle.ucq_words.specs.Settings.{SettingsValue, AreSettings, StandFor, IsJob, IsNumber, AnswersJob, AnswersWords}
 
 -- settings by the matches are what the words stand for
-pub stand : (words : List Text) (rows : List Row) (v : SettingsValue) → IsTaken words rows → AreSettings rows v → StandFor words v
+pub stand : (words : List Text) (rows : List Row) (v : SettingsValue) → AreMatched words rows → AreSettings rows v → StandFor words v
 stand words rows v taken s = record {
   taken = taken.taken;
   settings = subst (λ (r : List Row). AreSettings r v) taken.are s;
 }
 
 -- and the other way round
-pub by_matches : (words : List Text) (rows : List Row) (v : SettingsValue) → IsTaken words rows → StandFor words v → AreSettings rows v
+pub by_matches : (words : List Text) (rows : List Row) (v : SettingsValue) → AreMatched words rows → StandFor words v → AreSettings rows v
 by_matches words rows v taken s = subst (λ (r : List Row). AreSettings r v) (sym taken.are) s.settings
 
 -- where there is no job, the words stand for nothing
-pub no_job : (words : List Text) (rows : List Row) (answers : Bool) (fault : WordsFault) → IsTaken words rows → answers ≡ is_given (codes "answers") rows
+pub no_job : (words : List Text) (rows : List Row) (answers : Bool) (fault : WordsFault) → AreMatched words rows → answers ≡ is_given (codes "answers") rows
     → AnswersJob (first_of (codes "make") rows) (files_in rows) answers (Err fault) → AnswersWords words (Err fault)
 no_job words rows answers BadWords taken given none = λ v s.
     let at = by_matches words rows v taken s in

@@ -34,12 +34,12 @@ abbrev pub files_in : List Row → List Text
 files_in rows = unwrap_or (all_of (codes "file") rows) []
 
 -- clap takes the words, and these are its matches
-pub record IsTaken (words : List Text) (rows : List Row) : Type 0 where
+pub record AreMatched (words : List Text) (rows : List Row) : Type 0 where
   pub taken : fault_of command words ≡ []
   pub are : rows ≡ matches_of command words
 
 -- clap takes the words and gives its matches, or it doesn't take them
 abbrev pub Matches : List Text → Result ArgMatches WordsFault → Type 0
-Matches words (Ok m) = IsTaken words (rows_of (found_of m))
+Matches words (Ok m) = AreMatched words (rows_of (found_of m))
 Matches words (Err BadWords) = fault_of command words ≡ [] → ⊥
 Matches words (Err Memory) = Unit {0}

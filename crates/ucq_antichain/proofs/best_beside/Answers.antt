@@ -1,8 +1,8 @@
 use Rattle.std.proofs.Common.{◌≡◌, ◌+◌, ◌*◌, ◌<◌, ℕ, get_or, ap, ◌∙◌, arith, subst}
 use Rattle.std.specs.Int.{bit_at}
 use Rattle.ucq_hom.specs.Signature.{Marks}
-use Rattle.ucq_antichain.specs.Chains.{Chained, IsInChain}
-use Rattle.ucq_antichain.specs.Walks.{NoneEarlier}
+use Rattle.ucq_antichain.specs.inner.Chains.{Chained, IsInChain}
+use Rattle.ucq_antichain.specs.inner.Walks.{NoneEarlier}
 use Rattle.ucq_antichain.proofs.Walked.{none_beside_any, passed_over, one_beside, all_beside}
 use Rattle.ucq_antichain.proofs.best_beside.Goals as goal
 

@@ -1,6 +1,6 @@
 use Rattle.std.proofs.Common.{◌≤◌, ◌-◌}
 use Rattle.ucq_hom.specs.Space.{IsClear}
-use Rattle.ucq_antichain.specs.Walks.{IsBest}
+use Rattle.ucq_antichain.specs.inner.Walks.{IsBest}
 use Rattle.ucq_antichain.proofs.Walked.{BesideBelow}
 use Rattle.ucq_antichain.proofs.best_beside.Given as goal
 

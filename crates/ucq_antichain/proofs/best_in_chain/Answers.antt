@@ -1,5 +1,5 @@
 use Rattle.std.proofs.Common.{◌≡◌, ◌-◌, ◌+◌, ◌<◌, ℕ, get_or, ap, ◌∙◌, arith}
-use Rattle.ucq_antichain.specs.Chains.{Chained}
+use Rattle.ucq_antichain.specs.inner.Chains.{Chained}
 use Rattle.ucq_antichain.proofs.Walked.{one_further, all_seen}
 use Rattle.ucq_antichain.proofs.best_in_chain.Goals as goal
 

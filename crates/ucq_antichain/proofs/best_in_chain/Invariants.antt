@@ -1,6 +1,6 @@
 use Rattle.std.proofs.Common.{◌≤◌, ◌<◌, length}
 use Rattle.ucq_hom.specs.Space.{IsClear}
-use Rattle.ucq_antichain.specs.Walks.{IsBest}
+use Rattle.ucq_antichain.specs.inner.Walks.{IsBest}
 use Rattle.ucq_antichain.proofs.Walked.{SoFar}
 use Rattle.ucq_antichain.proofs.best_in_chain.Given as goal
 

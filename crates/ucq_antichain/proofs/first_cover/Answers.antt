@@ -1,6 +1,6 @@
 use Rattle.std.proofs.Common.{ℕ, inl, inr, get_or, sym, arith, subst}
 use Rattle.std.proofs.lemmas.Bool.{cases_eq}
-use Rattle.ucq_antichain.specs.Walks.{NoneBeside}
+use Rattle.ucq_antichain.specs.inner.Walks.{NoneBeside}
 use Rattle.ucq_antichain.proofs.Walked.{still_none, still_beside, best_is_first, none_is_first}
 use Rattle.ucq_antichain.proofs.first_cover.Goals as goal
 

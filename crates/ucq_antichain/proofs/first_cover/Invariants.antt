@@ -1,6 +1,6 @@
 use Rattle.std.proofs.Common.{ℕ, ◌<◌, get_or}
 use Rattle.ucq_hom.specs.Space.{IsClear}
-use Rattle.ucq_antichain.specs.Walks.{IsBest, NoneEarlier, NoneBeside}
+use Rattle.ucq_antichain.specs.inner.Walks.{IsBest, NoneEarlier, NoneBeside}
 use Rattle.ucq_antichain.proofs.first_cover.Given as goal
 
 abbrev pub invariant-loop-first : goal.invariant-loop-first

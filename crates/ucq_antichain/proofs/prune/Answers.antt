@@ -1,5 +1,5 @@
 use Rattle.std.proofs.Common.{◌≡◌, ◌*◌, ◌+◌, ℕ, subst, arith}
-use Rattle.ucq_antichain.specs.Walks.{IsPrunedFrom}
+use Rattle.ucq_antichain.specs.inner.Walks.{IsPrunedFrom}
 use Rattle.ucq_antichain.proofs.Pruned.{pruned_further, queries_stay, all_pruned}
 use Rattle.ucq_antichain.proofs.Walked.{IsIndexOf-pruned}
 use Rattle.ucq_antichain.proofs.prune.Goals as goal

@@ -1,6 +1,6 @@
 use Rattle.std.proofs.Common.{◌*◌}
 use Rattle.ucq_hom.specs.Space.{IsClear}
-use Rattle.ucq_antichain.specs.Walks.{IsIndexOf, IsPrunedFrom}
+use Rattle.ucq_antichain.specs.inner.Walks.{IsIndexOf, IsPrunedFrom}
 use Rattle.ucq_antichain.proofs.prune.Given as goal
 
 abbrev pub invariant-loop-group : goal.invariant-loop-group

@@ -1,6 +1,6 @@
 use Rattle.std.proofs.Common.{◌≡◌, ◌+◌, ◌*◌, ◌<◌, ◌≤◌, ℕ, subst, arith}
 use Rattle.std.specs.Prelude.{min}
-use Rattle.ucq_antichain.specs.Walks.{IsPrunedFrom, NoneCovered}
+use Rattle.ucq_antichain.specs.inner.Walks.{IsPrunedFrom, NoneCovered}
 use Rattle.ucq_antichain.proofs.Pruned.{none_die, pruned_on, queries_stay}
 use Rattle.ucq_antichain.proofs.Walked.{none_in_group, IsIndexOf-pruned}
 use Rattle.ucq_antichain.proofs.prune_group.Goals as goal

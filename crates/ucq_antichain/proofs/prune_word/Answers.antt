@@ -1,6 +1,6 @@
 use Rattle.std.proofs.Common.{◌≡◌, ◌+◌, ◌*◌, ◌<◌, ◌≤◌, ◌∙◌, sym, cond, add-zero, Bool, ℕ, true, false, subst, arith}
 use Rattle.std.specs.Prelude.{min}
-use Rattle.ucq_antichain.specs.Walks.{IsPrunedFrom, NoneCovered}
+use Rattle.ucq_antichain.specs.inner.Walks.{IsPrunedFrom, NoneCovered}
 use Rattle.ucq_antichain.proofs.Pruned.{none_die, one_dies, pruned_on, query_stays}
 use Rattle.ucq_antichain.proofs.Walked.{none_in_word, IsIndexOf-pruned}
 use Rattle.ucq_antichain.proofs.prune_word.Goals.{then-dies_at, else-dies_at}

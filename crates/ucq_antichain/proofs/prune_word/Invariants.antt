@@ -1,7 +1,7 @@
 use Rattle.std.proofs.Common.{◌*◌, ◌+◌, ◌≤◌, ◌-◌}
 use Rattle.std.specs.Prelude.{min}
 use Rattle.ucq_hom.specs.Space.{IsClear}
-use Rattle.ucq_antichain.specs.Walks.{IsIndexOf, IsPrunedFrom}
+use Rattle.ucq_antichain.specs.inner.Walks.{IsIndexOf, IsPrunedFrom}
 use Rattle.ucq_antichain.proofs.prune_word.Given as goal
 
 abbrev pub invariant-loop-bit : goal.invariant-loop-bit

@@ -19,7 +19,7 @@ pub record Follows {E : Type 0} (union : List Query) (facts : List Atom) (before
   pub collected : IsCollected member facts (tuples_in search.found.keys) (tuples_in after.found.keys)
 
 -- A search was made, and found these.
-pub record IsOf {S E : Type 0} (before : Result Search E) (found : IndexSet (Vec ℕ) S) : Type 0 where
+pub record IsFoundBy {S E : Type 0} (before : Result Search E) (found : IndexSet (Vec ℕ) S) : Type 0 where
   pub search : Search
   pub was : before ≡ Ok search
   pub same : found.keys ≡ search.found.keys

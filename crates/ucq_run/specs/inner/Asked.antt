@@ -23,7 +23,7 @@ pub record IsAbout (a : Asked) (facts : List Atom) : Type 0 where
   pub held : AreHeldAtoms (length a.names) facts
 
 -- 1 to 65,536 rows, 1 to 64 workers, and each predicate and constant of the problem has a name
-pub record IsWithin (a : Asked) : Type 0 where
+pub record IsWithinLimits (a : Asked) : Type 0 where
   pub some : 0 < a.budget
   pub small : a.budget ≤ 65536
   pub one : 0 < a.workers
@@ -37,7 +37,7 @@ pub record Asks (call : Call) (a : Asked) : Type 0 where
   pub asked : IsAsked call settings input
   pub question : question_in a input.facts ≡ question_of settings input
   pub about : IsAbout a input.facts
-  pub within : IsWithin a
+  pub within : IsWithinLimits a
 
 -- what is asked, or the outcome, which has its cause and comes before anything is printed
 abbrev pub IsRead : Call → Result Asked Outcome → Type 0

@@ -2,7 +2,7 @@ use Rattle.std.proofs.Common.{◌≡◌, ℕ, List, [], Contains, nat_eq, true, 
 use Rattle.ucq_terms.specs.Syntax.{Query}
 use Rattle.ucq_unify.specs.Pieces.{AreSinglePieces}
 use Rattle.ucq_join.specs.Names.{Named}
-use Rattle.ucq_join.specs.Walk.{Walk, IsStep, IsLast, GoesOn}
+use Rattle.ucq_join.specs.Walk.{Walk, Advances, IsLast, GoesOn}
 use Rattle.ucq_step.specs.Steps.{IsRewrittenAt, AreCoresUpTo, AreSteps}
 use Rattle.ucq_terms.proofs.Lists.{Contains-empty}
 use Rattle.ucq_step.proofs.Cores.{HaveCores-none}
@@ -11,11 +11,11 @@ use Rattle.ucq_step.proofs.Walking.{ArePieces-single, WalksIn-next, stands-next,
 use Rattle.ucq_step.proofs.step.Goals as goal
 
 -- the walk goes on where a step gives a set
-goes_on : (before after : Walk) (given : Option Named) (j : Named) → given ≡ Some j → IsStep before after (Ok given) → GoesOn before after j
-goes_on before after given j e s = subst (λ (o : Option Named). IsStep before after (Ok o)) e s
+goes_on : (before after : Walk) (given : Option Named) (j : Named) → given ≡ Some j → Advances before after (Ok given) → GoesOn before after j
+goes_on before after given j e s = subst (λ (o : Option Named). Advances before after (Ok o)) e s
 
 -- and it is at its end where a step gives none
-ended : (before after : Walk) (given : Option Named) → ((j : Named) → given ≡ Some j → ⊥) → IsStep before after (Ok given) → IsLast before
+ended : (before after : Walk) (given : Option Named) → ((j : Named) → given ≡ Some j → ⊥) → Advances before after (Ok given) → IsLast before
 ended before after None f s = s.0
 ended before after (Some j) f s = absurd (f j refl)
 

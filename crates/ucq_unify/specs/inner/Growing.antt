@@ -24,7 +24,7 @@ abbrev pub with_head : List (Option ℕ) → ℕ → ℕ → List (Option ℕ)
 with_head choice place head = slice_set choice place (Some head)
 
 -- each pair of the choice is one of these
-pub record IsWithin (choice : List (Option ℕ)) (pairs : List (ℕ × ℕ)) : Type 0 where
+pub record ChoosesAmong (choice : List (Option ℕ)) (pairs : List (ℕ × ℕ)) : Type 0 where
   pub each : (pair : ℕ × ℕ) → Contains (pairs_of choice) pair → Contains pairs pair
 
 -- no pair has a place below the root
@@ -45,22 +45,22 @@ pub record IsConnected (q : Query) (rule : Rule) (pairs : List (ℕ × ℕ)) : T
 pub record IsGrown (q : Query) (rule : Rule) (root : ℕ) (choice : List (Option ℕ)) : Type 0 where
   pub root_least : StartsAt root (pairs_of choice)
   pub keeps : (pair : ℕ × ℕ) → Contains (pairs_of choice) pair → KeepsPredicate q rule pair
-  pub together : (pairs : List (ℕ × ℕ)) (f : ℕ → Bool) → IsPieceUnifier q rule pairs → IsWithin choice pairs → IsAlike q rule pairs f →
+  pub together : (pairs : List (ℕ × ℕ)) (f : ℕ → Bool) → IsPieceUnifier q rule pairs → ChoosesAmong choice pairs → IsAlike q rule pairs f →
       (pair : ℕ × ℕ) → Contains (pairs_of choice) pair → f pair.0 ≡ f root
 
 -- These are the single pieces that have the choice's pairs and no place below the root, each once.
 pub record IsSearched (q : Query) (rule : Rule) (root : ℕ) (choice : List (Option ℕ)) (pieces : List (List (ℕ × ℕ))) : Type 0 where
   pub single : (piece : List (ℕ × ℕ)) → Contains pieces piece → IsSinglePiece q rule piece
-  pub has : (piece : List (ℕ × ℕ)) → Contains pieces piece → IsWithin choice piece × StartsAt root piece
-  pub whole : (piece : List (ℕ × ℕ)) → IsSinglePiece q rule piece → IsWithin choice piece → StartsAt root piece → Contains pieces piece
+  pub has : (piece : List (ℕ × ℕ)) → Contains pieces piece → ChoosesAmong choice piece × StartsAt root piece
+  pub whole : (piece : List (ℕ × ℕ)) → IsSinglePiece q rule piece → ChoosesAmong choice piece → StartsAt root piece → Contains pieces piece
   pub once : AllPairs (λ (a b : List (ℕ × ℕ)). a ≢ b) pieces
 
 -- the same of the pieces that have also a pair of this place and one of the heads below `tried`
 pub record IsBranched (q : Query) (rule : Rule) (root : ℕ) (choice : List (Option ℕ)) (place tried : ℕ) (pieces : List (List (ℕ × ℕ))) : Type 0 where
   pub single : (piece : List (ℕ × ℕ)) → Contains pieces piece → IsSinglePiece q rule piece
-  pub has : (piece : List (ℕ × ℕ)) → Contains pieces piece → IsWithin choice piece × StartsAt root piece
+  pub has : (piece : List (ℕ × ℕ)) → Contains pieces piece → ChoosesAmong choice piece × StartsAt root piece
   pub head : (piece : List (ℕ × ℕ)) → Contains pieces piece → (head : ℕ) × (head < tried) × Contains piece (place, head)
-  pub whole : (piece : List (ℕ × ℕ)) (head : ℕ) → IsSinglePiece q rule piece → IsWithin choice piece → StartsAt root piece → head < tried →
+  pub whole : (piece : List (ℕ × ℕ)) (head : ℕ) → IsSinglePiece q rule piece → ChoosesAmong choice piece → StartsAt root piece → head < tried →
       Contains piece (place, head) → Contains pieces piece
   pub once : AllPairs (λ (a b : List (ℕ × ℕ)). a ≢ b) pieces
 

@@ -2,17 +2,17 @@ use Rattle.std.proofs.Common.{◌≡◌, ◌+◌, ◌<◌, ◌≤◌, ◌++◌, 
 use Rattle.std.proofs.lemmas.List.{with_items_is, length-append}
 use Rattle.ucq_terms.specs.Syntax.{Query}
 use Rattle.ucq_antichain.specs.declared.Row.{Row}
-use Rattle.ucq_antichain.specs.Rows.{Kept, SomeLiveCovers}
+use Rattle.ucq_antichain.specs.Rows.{AntichainValue, SomeLiveCovers}
 use Rattle.ucq_antichain.specs.Calls.{IsPruned, AddsRow}
 use Rattle.ucq_antichain.proofs.Pruned.{with_last, adds_row}
-use Rattle.ucq_antichain.specs.Walks.{IsIndexOf}
+use Rattle.ucq_antichain.specs.inner.Walks.{IsIndexOf}
 use Rattle.ucq_antichain.proofs.Walked.{IsIndexOf-pruned, IsIndexOf-added}
 use Rattle.ucq_antichain.proofs.Antichain.add.Goals as goal
 
 pub returns-clause-does : goal.returns-clause-does
 returns-clause-does c =
     let f = c.self.inside in
-    let view : Kept = record { budget = f.budget; rows = f.rows.items } in
+    let view : AntichainValue = record { budget = f.budget; rows = f.rows.items } in
     let p : IsPruned c.args.query f.rows.items c.prune-pruned.new.rows c.prune-pruned.result =
     subst (λ (rs : List Row). IsPruned c.args.query rs c.prune-pruned.new.rows c.prune-pruned.result) c.as_mut_slice.ensures.value c.prune-pruned.ensures.pruned in
     let kept = with_items_is f.rows c.prune-pruned.new.rows (c.prune-pruned.ensures.pruned.count ∙ c.as_mut_slice.ensures.len) in
@@ -24,7 +24,7 @@ returns-clause-does c =
     let room : c.len-row.result < f.budget = omega (arith, size, c.as_mut_slice.ensures.len, c.len-row.ensures, c.len.ensures, c.if-len-self.false) in
     let fresh : ¬ SomeLiveCovers f.rows.items c.args.query =
     subst (λ (rs : List Row). ¬ SomeLiveCovers rs c.args.query) c.as_slice.ensures.value c.in_default.ensures.cover in
-    subst (λ (k : Kept). AddsRow k c.args.query c.len-row.result c.prune-pruned.result (record { budget = f.budget; rows = c.push_within.new.items.items })) c.self.view_is
+    subst (λ (k : AntichainValue). AddsRow k c.args.query c.len-row.result c.prune-pruned.result (record { budget = f.budget; rows = c.push_within.new.items.items })) c.self.view_is
     (subst (λ (rs : List Row). AddsRow view c.args.query c.len-row.result c.prune-pruned.result (record { budget = f.budget; rows = rs })) (sym e)
     (adds_row c.args.query f.rows.items c.prune-pruned.new.rows c.prune-pruned.result p f.budget c.len-row.result fresh at room))
 

@@ -1,5 +1,5 @@
 use Rattle.std.proofs.Common.{◌≡◌, ◌<◌, ◌⊎◌, ℕ, length, get_or}
-use Rattle.ucq_antichain.specs.Index.{IsKeyBeside}
+use Rattle.ucq_antichain.specs.inner.Index.{IsKeyBeside}
 use Rattle.ucq_antichain.proofs.index.rarest.Given as goal
 
 abbrev pub invariant-loop-mark : goal.invariant-loop-mark

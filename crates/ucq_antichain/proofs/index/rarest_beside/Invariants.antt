@@ -1,6 +1,6 @@
 use Rattle.std.proofs.Common.{◌≡◌, ◌≤◌, ◌<◌, ◌-◌, ◌⊎◌}
 use Rattle.std.specs.Int.{bit_at}
-use Rattle.ucq_antichain.specs.Index.{IsKeyBeside}
+use Rattle.ucq_antichain.specs.inner.Index.{IsKeyBeside}
 use Rattle.ucq_antichain.proofs.index.rarest_beside.Given as goal
 
 abbrev pub invariant-loop-second : goal.invariant-loop-second

@@ -1,6 +1,6 @@
 use Rattle.std.proofs.Common.{◌≡◌, ◌≤◌, ◌+◌, vec_len}
 use Rattle.std.specs.Prelude.{All}
-use Rattle.ucq_board.specs.Values.{IsOf}
+use Rattle.ucq_board.specs.Values.{IsSeatOf}
 use Rattle.ucq_pool.specs.Shared.{IsAtWork}
 use Rattle.ucq_pool.proofs.crew.seat_team.Given as goal
 
@@ -9,5 +9,5 @@ invariant-loop l = record {
   jobs : All (λ job. IsAtWork l.board job.seat) l.jobs.items;
   few : vec_len l.jobs ≤ l.counter;
   count : l.first.view.spare + vec_len l.jobs ≡ l.initial.first.view.spare;
-  first : IsOf l.board l.first;
+  first : IsSeatOf l.board l.first;
 }

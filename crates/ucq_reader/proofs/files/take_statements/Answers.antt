@@ -4,9 +4,9 @@ use Rattle.std.proofs.lemmas.Result.{err_from_is_err_and}
 use Rattle.ucq_reader.specs.declared.ReadFault.{ReadFault}
 use Rattle.ucq_reader.specs.Meaning.{malformed}
 use Rattle.ucq_reader.specs.Outcome.{IsFileFault, IsAdmitted, IsJudged}
-use Rattle.ucq_reader.specs.Placing.{IsSpelled, placed_view}
+use Rattle.ucq_reader.specs.inner.Placing.{IsSpelled, placed_view}
 use Rattle.ucq_lexer.specs.declared.Token.{Token}
-use Rattle.ucq_reader.specs.Parse.{IsNoStatement}
+use Rattle.ucq_reader.specs.inner.Parse.{IsNoStatement}
 use Rattle.ucq_reader.proofs.Parsing.{tokens_count}
 use Rattle.ucq_reader.proofs.Taking.{AreJudged, start, within, some, spelled, judge, between, finish, refused, or_memory_map, taken_in}
 use Rattle.ucq_reader.proofs.files.take_statements.Goals as goal

@@ -2,12 +2,12 @@ use Rattle.std.proofs.Common.{◌≡◌, subst, sym, Option, Ok, Some}
 use Rattle.ucq_terms.specs.declared.Term.TheVariants.{Variable}
 use Rattle.ucq_terms.specs.Syntax.{Query, Rule, OccursIn}
 use Rattle.ucq_join.specs.Names.{Named}
-use Rattle.ucq_join.specs.Walk.{Walk, IsStep, GoesOn}
+use Rattle.ucq_join.specs.Walk.{Walk, Advances, GoesOn}
 use Rattle.ucq_rows_steps.proofs.aggregates.next_of.Goals as goal
 
 -- the walk goes on where a step gives a set
-goes_on : (before after : Walk) (given : Option Named) (j : Named) → given ≡ Some j → IsStep before after (Ok given) → GoesOn before after j
-goes_on before after given j e s = subst (λ (o : Option Named). IsStep before after (Ok o)) e s
+goes_on : (before after : Walk) (given : Option Named) (j : Named) → given ≡ Some j → Advances before after (Ok given) → GoesOn before after j
+goes_on before after given j e s = subst (λ (o : Option Named). Advances before after (Ok o)) e s
 
 pub names_of-requires-clause-query : goal.names_of-requires-clause-query
 names_of-requires-clause-query c =

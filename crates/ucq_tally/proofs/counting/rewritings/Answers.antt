@@ -3,18 +3,18 @@ use Rattle.std.specs.Option.{is_some}
 use Rattle.ucq_terms.specs.Syntax.{Query, Rule}
 use Rattle.ucq_unify.specs.Pieces.{AreSinglePieces}
 use Rattle.ucq_join.specs.Names.{Named}
-use Rattle.ucq_join.specs.Walk.{Walk, IsStep, IsLast, GoesOn}
+use Rattle.ucq_join.specs.Walk.{Walk, Advances, IsLast, GoesOn}
 use Rattle.ucq_step.proofs.Walking.{ArePieces-single, WalksIn-next, stands-next, left_of-less}
 use Rattle.ucq_tally.proofs.Walked.{HasCounted-start, HasCounted-next, HasRewritings-end}
 use Rattle.ucq_tally.proofs.counting.rewritings.Goals as goal
 
 -- the walk goes on where a step gives a set
-goes_on : (before after : Walk) (given : Option Named) → is_some given ≡ true → IsStep before after (Ok given) → (j : Named) × GoesOn before after j
+goes_on : (before after : Walk) (given : Option Named) → is_some given ≡ true → Advances before after (Ok given) → (j : Named) × GoesOn before after j
 goes_on before after None e s = absurd (cc)
 goes_on before after (Some j) e s = (j, s)
 
 -- and it is at its end where a step gives none
-ended : (before after : Walk) (given : Option Named) → is_some given ≡ false → IsStep before after (Ok given) → IsLast before
+ended : (before after : Walk) (given : Option Named) → is_some given ≡ false → Advances before after (Ok given) → IsLast before
 ended before after None e s = s.0
 ended before after (Some j) e s = absurd (cc)
 

@@ -1,6 +1,6 @@
 use Rattle.std.proofs.Common.{◌+◌, ◌*◌, arith, subst}
 use Rattle.std.proofs.lemmas.List.{get_or_read}
-use Rattle.ucq_antichain.specs.Chains.{Chained, IsInChain}
+use Rattle.ucq_antichain.specs.inner.Chains.{Chained, IsInChain}
 use Rattle.ucq_antichain.proofs.Links.{none_beside}
 use Rattle.ucq_antichain.proofs.chains.Chains.filled.Goals as goal
 

@@ -2,7 +2,7 @@ use Rattle.std.proofs.Common.{subst, arith}
 use Rattle.std.specs.Vec.{vec_capacity}
 use Rattle.std.proofs.Math.ListN.{set}
 use Rattle.std.proofs.lemmas.List.{get_or_read}
-use Rattle.ucq_antichain.specs.Chains.{Chained, Keeps}
+use Rattle.ucq_antichain.specs.inner.Chains.{Chained, Keeps}
 use Rattle.ucq_antichain.proofs.Links.{Keeps-pushed}
 use Rattle.ucq_antichain.proofs.chains.Chains.push.Goals as goal
 

@@ -1,6 +1,6 @@
 use Rattle.std.proofs.Common.{◌≡◌, ◌+◌, ◌∙◌, ◌++◌, ◌∷◌, [], List, ℕ, ◌<◌, ◌*◌, length, sym, ap, arith, subst}
 use Rattle.ucq_hom.specs.Signature.{Marks}
-use Rattle.ucq_antichain.specs.Index.{Indexed, IsIndex}
+use Rattle.ucq_antichain.specs.inner.Index.{Indexed, IsIndex}
 use Rattle.ucq_antichain.proofs.Indexed.{IsKey, IsIndex-pushed}
 use Rattle.ucq_antichain.proofs.index.Index.push.Goals as goal
 

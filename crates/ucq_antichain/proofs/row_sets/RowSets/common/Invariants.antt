@@ -1,6 +1,6 @@
 use Rattle.std.proofs.Common.{◌≡◌, ℕ, ◌/◌, ◌%◌, ◌<◌, get_or}
 use Rattle.std.specs.Int.{bit_at}
-use Rattle.ucq_antichain.specs.Sets.{IsIn}
+use Rattle.ucq_antichain.specs.inner.Sets.{IsIn}
 use Rattle.ucq_antichain.proofs.row_sets.RowSets.common.Given as goal
 
 abbrev pub invariant-loop-mark : goal.invariant-loop-mark

@@ -1,5 +1,5 @@
 use Rattle.std.proofs.Common.{ℕ, ◌<◌, get_or}
-use Rattle.ucq_antichain.specs.Sets.{IsIn, Keeps}
+use Rattle.ucq_antichain.specs.inner.Sets.{IsIn, Keeps}
 use Rattle.ucq_antichain.proofs.row_sets.RowSets.insert_all.Given as goal
 
 abbrev pub invariant-loop-mark : goal.invariant-loop-mark

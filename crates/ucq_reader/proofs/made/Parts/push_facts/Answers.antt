@@ -1,6 +1,6 @@
 -- One more pair of facts, and the last fact.
 use Rattle.std.proofs.Common.{◌≡◌, ◌+◌, ℕ, arith, subst}
-use Rattle.ucq_reader.specs.Making.{HasPairs}
+use Rattle.ucq_reader.specs.inner.Making.{HasPairs}
 use Rattle.ucq_reader.proofs.Making.{pair_more, facts_done}
 use Rattle.ucq_reader.proofs.made.Parts.push_facts.Goals as goal
 

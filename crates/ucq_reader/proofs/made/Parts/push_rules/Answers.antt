@@ -1,6 +1,6 @@
 -- One more rule of the chain, and the last rule.
 use Rattle.std.proofs.Common.{◌≡◌, ℕ, arith, subst}
-use Rattle.ucq_reader.specs.Making.{HasChain}
+use Rattle.ucq_reader.specs.inner.Making.{HasChain}
 use Rattle.ucq_reader.proofs.Making.{chain_more, rules_done}
 use Rattle.ucq_reader.proofs.made.Parts.push_rules.Goals as goal
 

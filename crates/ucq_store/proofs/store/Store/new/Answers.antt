@@ -2,7 +2,7 @@ use Rattle.std.proofs.Common.{ap₂, ◌≡◌, sym, ap, ◌∙◌, List, [], �
 use Rattle.ucq_terms.specs.Syntax.{Query}
 use Rattle.ucq_terms.specs.Homomorphism.{IsCoreOf}
 use Rattle.ucq_fold.specs.Parts.{IsPartInOrder}
-use Rattle.ucq_antichain.specs.Rows.{Kept}
+use Rattle.ucq_antichain.specs.Rows.{AntichainValue}
 use Rattle.ucq_antichain.specs.Calls.{DoesAdd}
 use Rattle.ucq_store.specs.declared.Mark.{Mark}
 use Rattle.ucq_store.specs.declared.RowState.TheVariants.{Open}
@@ -20,7 +20,7 @@ first_mark = record { depth = 0; state = Open }
 rows_are : (c : goal.After-push) → c.add.new.self ≡ record { budget = c.args.budget; rows = live_row c.shrink.new.query ∷ [] }
 rows_are c =
     first_row c.args.budget c.shrink.new.query c.add.result c.add.new.self c.requires.some
-    (subst (λ (k : Kept). DoesAdd k c.shrink.new.query c.add.result c.add.new.self) c.in_ok-antichain.ensures c.add.ensures.does)
+    (subst (λ (k : AntichainValue). DoesAdd k c.shrink.new.query c.add.result c.add.new.self) c.in_ok-antichain.ensures c.add.ensures.does)
 
 marks_are : (c : goal.After-push) → c.push.new.self.items ≡ first_mark ∷ []
 marks_are c = c.push.ensures.items ∙ ap (λ (ms : List Mark). ms ++ first_mark ∷ []) c.in_ok-marks.ensures.0
@@ -31,12 +31,12 @@ asked c = c.in_ok-core.ensures ∙ c.query.ensures
 shrunk : (c : goal.After-push) → IsCoreOf c.args.problem.now.query c.shrink.new.query
 shrunk c = subst (λ (q : Query). IsCoreOf q c.shrink.new.query) (asked c) c.shrink.ensures.core
 
-made : (c : goal.After-push) → Kept → List Mark → Store
+made : (c : goal.After-push) → AntichainValue → List Mark → Store
 made c k marks = record { problem = c.args.problem.now; budget = k.budget; rows = k.rows; marks = marks; level = 0; claims = 0; cut = None }
 
 is_new : (c : goal.After-push) → made c c.add.new.self c.push.new.self.items ≡ new_store c.args.problem.now c.args.budget c.shrink.new.query
 unfolding made
-is_new c = ap₂ (λ (k : Kept) (ms : List Mark). made c k ms) (rows_are c) (marks_are c)
+is_new c = ap₂ (λ (k : AntichainValue) (ms : List Mark). made c k ms) (rows_are c) (marks_are c)
 
 pub invariant_of-result : goal.invariant_of-result
 unfolding made
@@ -47,7 +47,7 @@ invariant_of-result c =
     let sound = first_is_sound_core c.args.problem.now core part answers c.add.ensures.stored (shrunk c) in
     let law : IsLawfulByLevels (new_store c.args.problem.now c.args.budget core) =
     new_is_lawful c.args.problem.now c.args.budget core c.requires.some sound (shrunk c) in
-    let budget : c.add.new.self.budget ≡ c.args.budget = ap (λ (k : Kept). k.budget) (rows_are c) in (
+    let budget : c.add.new.self.budget ≡ c.args.budget = ap (λ (k : AntichainValue). k.budget) (rows_are c) in (
       subst IsLawfulByLevels (sym (is_new c)) law,
       omega (arith, c.requires.small),
       omega (arith, c.push.ensures.room, c.in_ok-marks.ensures.1),

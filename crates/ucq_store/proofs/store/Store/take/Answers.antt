@@ -1,5 +1,5 @@
 use Rattle.std.proofs.Common.{◌≡◌, ◌+◌, ◌≤◌, Some, None, refl, sym, ap, ◌∙◌, arith, subst}
-use Rattle.ucq_antichain.specs.Rows.{Kept}
+use Rattle.ucq_antichain.specs.Rows.{AntichainValue}
 use Rattle.ucq_store.specs.Store.{Store}
 use Rattle.ucq_store.specs.Lawful.{IsLeftOver}
 use Rattle.ucq_store.specs.Candidates.{Candidate, used, HoldsCore}
@@ -61,6 +61,6 @@ returns-in-Full-clause-does c =
     let left : IsLeftOver s.problem s.budget s.rows c.in_ok-core.core = over s c.args.candidate.now c.in_ok-core.core o c.in_ok-core.ensures.core c.in-Full.ensures.stored c.self.invariant.0.lawful fresh full in (
       subst (HoldsCore c.args.candidate.now) (sym back) (holds_core s c.args.candidate.now c.in_ok-core.core o c.in_ok-core.ensures.core),
       c.take.ensures.left ∙ ap used o.fresh.placed_nowhere,
-      ap (λ (k : Kept). with_rows s k s.marks) same ∙ c.self.view_is,
+      ap (λ (k : AntichainValue). with_rows s k s.marks) same ∙ c.self.view_is,
       subst (λ (v : Store). IsLeftOver v.problem v.budget v.rows c.in-Full.query) c.self.view_is (subst (IsLeftOver s.problem s.budget s.rows) (sym back) left),
     )

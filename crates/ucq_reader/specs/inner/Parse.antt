@@ -5,7 +5,7 @@ use Rattle.ucq_reader.specs.declared.ReadFault.{ReadFault}
 use Rattle.ucq_reader.specs.Outcome.{OrMemory}
 use Rattle.ucq_reader.specs.Statement.{Statement}
 use Rattle.ucq_reader.specs.File.{Reads}
-use Rattle.ucq_reader.specs.Ending.{words_from}
+use Rattle.ucq_reader.specs.inner.Ending.{words_from}
 use Rattle.ucq_reader.specs.Meaning.{malformed}
 use Rattle.ucq_reader.specs.Input.{words, IsRead}
 

@@ -6,8 +6,8 @@ use Rattle.ucq_terms.specs.Homomorphism.{Covers}
 use Rattle.ucq_hom.specs.Signature.{signature_of}
 use Rattle.ucq_antichain.specs.declared.Row.{Row}
 use Rattle.ucq_antichain.specs.Rows.{row_at, query_at, IsLiveAt, live_count}
-use Rattle.ucq_antichain.specs.Chains.{Chained, Reaches}
-use Rattle.ucq_antichain.specs.Index.{Indexed, signature_at}
+use Rattle.ucq_antichain.specs.inner.Chains.{Chained, Reaches}
+use Rattle.ucq_antichain.specs.inner.Index.{Indexed, signature_at}
 use Rattle.ucq_antichain.specs.Calls.{MayDie}
 
 -- the index has the signature of each row's query

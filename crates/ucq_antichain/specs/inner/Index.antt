@@ -2,8 +2,8 @@
 use Rattle.std.specs.Prelude.{◌≡◌, ℕ, ◌+◌, ◌*◌, ◌/◌, ◌<◌, ◌≤◌, ◌⊎◌, List, length, slice_index, slice_index_or}
 use Rattle.std.specs.Int.{bit_at}
 use Rattle.ucq_hom.specs.Signature.{Marks}
-use Rattle.ucq_antichain.specs.Sets.{Sets, IsIn}
-use Rattle.ucq_antichain.specs.Chains.{Chained, IsInChain}
+use Rattle.ucq_antichain.specs.inner.Sets.{Sets, IsIn}
+use Rattle.ucq_antichain.specs.inner.Chains.{Chained, IsInChain}
 
 -- the signatures of rows, with room for so many groups of 4,096, and chains of rows
 pub record Indexed : Type 0 where

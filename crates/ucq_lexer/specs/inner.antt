@@ -1,0 +1,3 @@
+-- Words of contracts that no other crate sees.
+pub mod Classes
+pub mod Front
