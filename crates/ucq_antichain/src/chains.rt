@@ -29,7 +29,8 @@ impl Model for Chains {
 
     ghost Value = { Chained };
 
-    ghost view = { λ c. record { heads = c.heads.items; next = c.next.items; room = vec_capacity c.next } };
+    ghost view = { λ c.
+        record { heads = c.heads.items; next = c.next.items; room = vec_capacity c.next } };
 
     ghost invariant = { λ c. AreChains c.heads.items c.next.items c.filled.items };
 }
@@ -47,7 +48,8 @@ impl Chains {
     /// Empty chains with room for so many rows.
     pub fn new(alloc: Global, rows: usize) -> Result<Chains, NoMemory>
         requires { rows ≤ 65536 }
-        ensures { IfOk result (λ c. (length c.next ≡ 1) × (slice_index c.next 0 ≡ 0) × (rows < c.room)) }
+        ensures { IfOk result (λ c.
+            (length c.next ≡ 1) × (slice_index c.next 0 ≡ 0) × (rows < c.room)) }
     {
         let heads = vec![in alloc; 0; NO_PAIR as usize + 1]?;
         let filled = vec![in alloc; 0; 129]?;

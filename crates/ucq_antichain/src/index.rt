@@ -39,7 +39,8 @@ impl Model for Index {
 
     ghost Value = { Indexed };
 
-    ghost view = { λ i. record { groups = i.groups; signatures = i.signatures.items; chains = i.chains } };
+    ghost view = { λ i.
+        record { groups = i.groups; signatures = i.signatures.items; chains = i.chains } };
 
     ghost invariant = { λ i.
         IsIndex i.groups i.signatures.items i.all i.words i.chains

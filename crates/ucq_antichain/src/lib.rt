@@ -192,7 +192,8 @@ fn is_cover(
     requires index { IsIndexOf index.now rows.now }
     requires marked { marked.now ≡ signature_of query.now }
     requires clear { IsClear space.old }
-    ensures covers { IsTrue result ↔ (IsLiveAt rows.now row × Covers (query_at rows.now row) query.now) }
+    ensures covers { IsTrue result
+        ↔ (IsLiveAt rows.now row × Covers (query_at rows.now row) query.now) }
     ensures clear { IsClear space.new }
 {
     if row as usize >= rows.len() {
@@ -416,7 +417,8 @@ fn prune_group(
     requires clear { IsClear space.old }
     requires low { group < 16 }
     requires group { group < index.now.groups }
-    ensures pruned { IsPrunedFrom query.now rows.old rows.new (4096 * group) (4096 * group + 4096) result }
+    ensures pruned { IsPrunedFrom query.now rows.old rows.new (4096 * group) (4096 * group + 4096)
+        result }
     ensures clear { IsClear space.new }
 {
     let among = index.words(marked, group) as u128;

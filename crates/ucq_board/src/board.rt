@@ -36,9 +36,8 @@ impl Model for Board {
 
     ghost Value = { BoardValue };
 
-    ghost view = {
-        λ b. record { table = b.table.shared.table_id; rows = b.rows; seats = b.seats }
-    };
+    ghost view = { λ b.
+        record { table = b.table.shared.table_id; rows = b.rows; seats = b.seats } };
 
     ghost invariant = { λ b. IsBoard b.table.shared.table_id b.table.shared.key b.rows b.seats };
 }
@@ -59,9 +58,8 @@ impl Model for Seat {
 
     ghost view = { λ s. record { table = s.inner.table_id; view = s.inner.me.0 } };
 
-    ghost invariant = {
-        λ s. IsSeat s.inner.table_id s.inner.me.0 s.spare s.ended × (s.inner.me.1 ≡ [])
-    };
+    ghost invariant = { λ s.
+        IsSeat s.inner.table_id s.inner.me.0 s.spare s.ended × (s.inner.me.1 ≡ []) };
 }
 
 /// What is left of a board that was closed: how many rows were drawn, whether stop was called, and which rows are done.
@@ -78,11 +76,9 @@ impl Model for Closed {
 
     ghost view = { λ c. told_by (slots_items c.words.words) c.rows };
 
-    ghost invariant = {
-        λ c.
-            IsClosed (slots_len c.words.words) (slots_len c.words.slots) c.rows
-            × IsFull c.words.words
-    };
+    ghost invariant = { λ c.
+        IsClosed (slots_len c.words.words) (slots_len c.words.slots) c.rows
+        × IsFull c.words.words };
 }
 
 impl Drop for Closed {
@@ -290,11 +286,9 @@ impl Board {
         ensures stopped { result.stopped ≡ seat.view.called }
         ensures few { result.drawn ≤ self.rows }
         ensures count { length result.done ≡ self.rows }
-        ensures done {
-            (row : ℕ) →
+        ensures done { (row : ℕ) →
             row < self.rows →
-            (IsTrue (is_done_in result row) ↔ Contains seat.view.finished row)
-        }
+            (IsTrue (is_done_in result row) ↔ Contains seat.view.finished row) }
     {
         let Board {
             table,

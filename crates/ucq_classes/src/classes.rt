@@ -65,11 +65,9 @@ impl<'n> Classes<'n> {
         requires x { IsNumbered self.old.numbers (node_of x) }
         requires y { IsNumbered self.old.numbers (node_of y) }
         ensures numbers { self.new.numbers ≡ self.old.numbers }
-        ensures linked {
-            (links : List (NodeValue × NodeValue)) →
+        ensures linked { (links : List (NodeValue × NodeValue)) →
             IsClassed links self.old →
-            IsClassed (links ++ (node_of x, node_of y) ∷ []) self.new
-        }
+            IsClassed (links ++ (node_of x, node_of y) ∷ []) self.new }
     {
         let a = self.numbering.number(x);
         let b = self.numbering.number(y);
@@ -82,11 +80,9 @@ impl<'n> Classes<'n> {
         requires head { NumbersHead self.old.numbers copy head.now }
         requires arity { length atom.now.terms ≡ length head.now.terms }
         ensures numbers { self.new.numbers ≡ self.old.numbers }
-        ensures linked {
-            (links : List (NodeValue × NodeValue)) →
+        ensures linked { (links : List (NodeValue × NodeValue)) →
             IsClassed links self.old →
-            IsClassed (links ++ atom_links atom.now copy head.now) self.new
-        }
+            IsClassed (links ++ atom_links atom.now copy head.now) self.new }
     {
         let terms = atom.terms();
         let others = head.terms();
@@ -99,11 +95,9 @@ impl<'n> Classes<'n> {
     pub fn same(&self, x: Node, y: Node) -> bool
         requires x { IsNumbered self.now.numbers (node_of x) }
         requires y { IsNumbered self.now.numbers (node_of y) }
-        ensures {
-            (links : List (NodeValue × NodeValue)) →
+        ensures { (links : List (NodeValue × NodeValue)) →
             IsClassed links self.now →
-            (IsTrue result ↔ AreJoined links (node_of x) (node_of y))
-        }
+            (IsTrue result ↔ AreJoined links (node_of x) (node_of y)) }
     {
         let a = self.numbering.number(x);
         let b = self.numbering.number(y);
@@ -120,19 +114,15 @@ impl<'n> Classes<'n> {
 
     /// Whether two constants are in one class.
     pub fn has_clash(&self) -> bool
-        ensures clash {
-            result ≡ true →
+        ensures clash { result ≡ true →
             (links : List (NodeValue × NodeValue)) →
             IsClassed links self.now →
             HasNoClash links →
-            ⊥
-        }
-        ensures none {
-            result ≡ false →
+            ⊥ }
+        ensures none { result ≡ false →
             (links : List (NodeValue × NodeValue)) →
             IsClassed links self.now →
-            HasNoClash links
-        }
+            HasNoClash links }
     {
         for place in 0..self.numbering.constants().len() as u32 {
             if self.label(place) != place {

@@ -23,13 +23,11 @@ pub fn place_of(constants: &[u32], constant: u32) -> u32
 /// Adds the constants of the atoms.
 pub fn note_atoms(constants: &mut Vec<u32>, atoms: &[Atom]) -> Result<(), NoMemory>
     ensures kept { (c : ℕ) → Contains constants.old.items c → Contains constants.new.items c }
-    ensures noted {
-        OnOk result ((c : ℕ) → OccursIn atoms.now (Constant c) → Contains constants.new.items c)
-    }
-    ensures once {
-        AllPairs (λ (c d : ℕ). c ≢ d) constants.old.items →
-        AllPairs (λ (c d : ℕ). c ≢ d) constants.new.items
-    }
+    ensures noted { OnOk
+        result
+        ((c : ℕ) → OccursIn atoms.now (Constant c) → Contains constants.new.items c) }
+    ensures once { AllPairs (λ (c d : ℕ). c ≢ d) constants.old.items →
+        AllPairs (λ (c d : ℕ). c ≢ d) constants.new.items }
     ensures few { vec_len constants.new ≤ vec_len constants.old + 16 * length atoms.now }
 {
     for atom in atoms {
@@ -41,13 +39,11 @@ pub fn note_atoms(constants: &mut Vec<u32>, atoms: &[Atom]) -> Result<(), NoMemo
 // Adds the constants among the terms.
 fn note_terms(constants: &mut Vec<u32>, terms: &[Term]) -> Result<(), NoMemory>
     ensures kept { (c : ℕ) → Contains constants.old.items c → Contains constants.new.items c }
-    ensures noted {
-        OnOk result ((c : ℕ) → Contains terms.now (Constant c) → Contains constants.new.items c)
-    }
-    ensures once {
-        AllPairs (λ (c d : ℕ). c ≢ d) constants.old.items →
-        AllPairs (λ (c d : ℕ). c ≢ d) constants.new.items
-    }
+    ensures noted { OnOk
+        result
+        ((c : ℕ) → Contains terms.now (Constant c) → Contains constants.new.items c) }
+    ensures once { AllPairs (λ (c d : ℕ). c ≢ d) constants.old.items →
+        AllPairs (λ (c d : ℕ). c ≢ d) constants.new.items }
     ensures few { vec_len constants.new ≤ vec_len constants.old + length terms.now }
 {
     for term in terms {
@@ -60,10 +56,8 @@ fn note_terms(constants: &mut Vec<u32>, terms: &[Term]) -> Result<(), NoMemory>
 fn note_term(constants: &mut Vec<u32>, term: Term) -> Result<(), NoMemory>
     ensures kept { (c : ℕ) → Contains constants.old.items c → Contains constants.new.items c }
     ensures noted { OnOk result ((c : ℕ) → term ≡ Constant c → Contains constants.new.items c) }
-    ensures once {
-        AllPairs (λ (c d : ℕ). c ≢ d) constants.old.items →
-        AllPairs (λ (c d : ℕ). c ≢ d) constants.new.items
-    }
+    ensures once { AllPairs (λ (c d : ℕ). c ≢ d) constants.old.items →
+        AllPairs (λ (c d : ℕ). c ≢ d) constants.new.items }
     ensures few { vec_len constants.new ≤ vec_len constants.old + 1 }
 {
     match term {
@@ -76,10 +70,8 @@ fn note_term(constants: &mut Vec<u32>, term: Term) -> Result<(), NoMemory>
 fn note(constants: &mut Vec<u32>, constant: u32) -> Result<(), NoMemory>
     ensures kept { (c : ℕ) → Contains constants.old.items c → Contains constants.new.items c }
     ensures noted { OnOk result (Contains constants.new.items constant) }
-    ensures once {
-        AllPairs (λ (c d : ℕ). c ≢ d) constants.old.items →
-        AllPairs (λ (c d : ℕ). c ≢ d) constants.new.items
-    }
+    ensures once { AllPairs (λ (c d : ℕ). c ≢ d) constants.old.items →
+        AllPairs (λ (c d : ℕ). c ≢ d) constants.new.items }
     ensures few { vec_len constants.new ≤ vec_len constants.old + 1 }
 {
     if !constants.contains(&constant) {

@@ -28,23 +28,19 @@ impl Model for Numbering {
 
     ghost Value = { Numbers };
 
-    ghost view = {
-        λ n.
-            record {
-                constants = n.constants.items;
-                variables = n.variables;
-                widths = n.widths.items;
-            }
-    };
+    ghost view = { λ n.
+        record {
+          constants = n.constants.items;
+          variables = n.variables;
+          widths = n.widths.items;
+        } };
 
-    ghost invariant = {
-        λ n.
-            IsNumbering (record {
-                constants = n.constants.items;
-                variables = n.variables;
-                widths = n.widths.items;
-            })
-    };
+    ghost invariant = { λ n.
+        IsNumbering (record {
+          constants = n.constants.items;
+          variables = n.variables;
+          widths = n.widths.items;
+        }) };
 }
 
 impl Numbering {
@@ -70,11 +66,9 @@ impl Numbering {
     pub fn note_heads(&mut self, rule: &Rule) -> Result<(), NoMemory>
         requires { size self.old + 512 < 2 ^ 32 }
         ensures kept { (c : ℕ) → Contains self.old.constants c → Contains self.new.constants c }
-        ensures noted {
-            OnOk
-                result
-                ((c : ℕ) → OccursIn rule.now.heads (Constant c) → Contains self.new.constants c)
-        }
+        ensures noted { OnOk
+            result
+            ((c : ℕ) → OccursIn rule.now.heads (Constant c) → Contains self.new.constants c) }
         ensures few { length self.new.constants ≤ length self.old.constants + 512 }
         ensures rest { self.new ≡ record self.old { constants = self.new.constants } }
     {
@@ -85,9 +79,9 @@ impl Numbering {
     /// One more copy, of a rule whose variables are below the width.
     pub fn add_copy(&mut self, width: u32) -> Result<(), NoMemory>
         requires { size self.old + width < 2 ^ 32 }
-        ensures added {
-            OnOk result (self.new ≡ record self.old { widths = self.old.widths ++ width ∷ [] })
-        }
+        ensures added { OnOk
+            result
+            (self.new ≡ record self.old { widths = self.old.widths ++ width ∷ [] }) }
         ensures kept { OnErr result (self.new ≡ self.old) }
     {
         self.widths.push(width)?;

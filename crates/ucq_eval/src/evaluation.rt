@@ -36,9 +36,8 @@ pub fn answers_with_texts<'n>(
     facts: &Facts,
 ) -> Result<Answers<'n>, NoMemory>
     ensures names { IfOk result (λ answers. answers.names ≡ names.now) }
-    ensures answers {
-        IfOk result (λ answers. AreAnswers names.now union.now facts.now answers.tuples)
-    }
+    ensures answers { IfOk result (λ answers.
+        AreAnswers names.now union.now facts.now answers.tuples) }
 {
     let found = found_of(alloc, union, facts)?;
     let all = in_order(alloc, names, found)?;

@@ -95,14 +95,12 @@ fn next_atom<'f>(
 
 /// Adds the tuple.
 fn add(found: &mut IndexSet<Vec<u32>>, tuple: &[u32]) -> Result<(), NoMemory>
-    ensures {
-        OnOk
-            result
-            (IsGrownBy
-                 (λ t. t ≡ tuple.now)
-                 (map (λ t. t.items) found.old.keys)
-                 (map (λ t. t.items) found.new.keys))
-    }
+    ensures { OnOk
+        result
+        (IsGrownBy
+        (λ t. t ≡ tuple.now)
+        (map (λ t. t.items) found.old.keys)
+        (map (λ t. t.items) found.new.keys)) }
 {
     let held = Vec::from_slice(*found.allocator(), tuple)?;
     let _added = found.insert(held)?;
@@ -131,14 +129,12 @@ fn explore(
     requires reached { AreReached bindings.old query.now places.old }
     ensures bindings { OnOk result (bindings.new ≡ bindings.old) }
     ensures places { OnOk result (HasSamePlaces places.old places.new) }
-    ensures found {
-        OnOk
-            result
-            (IsGrownBy
-                 (Gives bindings.old query.now places.old facts.now)
-                 (map (λ t. t.items) found.old.keys)
-                 (map (λ t. t.items) found.new.keys))
-    }
+    ensures found { OnOk
+        result
+        (IsGrownBy
+        (Gives bindings.old query.now places.old facts.now)
+        (map (λ t. t.items) found.old.keys)
+        (map (λ t. t.items) found.new.keys)) }
 {
     let answers = query.answers();
     if has_unknown(bindings, answers) {
@@ -171,14 +167,12 @@ fn branch(
     requires reached { AreReached bindings.old query.now places.old }
     ensures bindings { OnOk result (bindings.new ≡ bindings.old) }
     ensures places { OnOk result (HasSamePlaces places.old places.new) }
-    ensures found {
-        OnOk
-            result
-            (IsGrownBy
-                 (Gives bindings.old query.now places.old facts.now)
-                 (map (λ t. t.items) found.old.keys)
-                 (map (λ t. t.items) found.new.keys))
-    }
+    ensures found { OnOk
+        result
+        (IsGrownBy
+        (Gives bindings.old query.now places.old facts.now)
+        (map (λ t. t.items) found.old.keys)
+        (map (λ t. t.items) found.new.keys)) }
 {
     let (next, targets) = next_atom(bindings, facts, query.atoms(), places);
     places.swap(0, next);
@@ -206,14 +200,12 @@ fn visit(
     requires name { (atom_at query.now.atoms place).name ≡ target.now.name }
     ensures bindings { OnOk result (bindings.new ≡ bindings.old) }
     ensures places { OnOk result (HasSamePlaces rest.old rest.new) }
-    ensures found {
-        OnOk
-            result
-            (IsGrownBy
-                 (GivesBy bindings.old query.now place (target.now ∷ []) rest.old facts.now)
-                 (map (λ t. t.items) found.old.keys)
-                 (map (λ t. t.items) found.new.keys))
-    }
+    ensures found { OnOk
+        result
+        (IsGrownBy
+        (GivesBy bindings.old query.now place (target.now ∷ []) rest.old facts.now)
+        (map (λ t. t.items) found.old.keys)
+        (map (λ t. t.items) found.new.keys)) }
 {
     let mark = bindings.mark();
     let atom = &query.atoms()[place as usize];
@@ -242,15 +234,13 @@ pub(crate) fn collect(
     facts: &Facts,
     found: &mut IndexSet<Vec<u32>>,
 ) -> Result<(), NoMemory>
-    ensures {
-        OnOk
-            result
-            (IsCollected
-                 query.now
-                 facts.now
-                 (map (λ t. t.items) found.old.keys)
-                 (map (λ t. t.items) found.new.keys))
-    }
+    ensures { OnOk
+        result
+        (IsCollected
+        query.now
+        facts.now
+        (map (λ t. t.items) found.old.keys)
+        (map (λ t. t.items) found.new.keys)) }
 {
     bindings.clear();
     let mut room = [0; ATOMS as usize];

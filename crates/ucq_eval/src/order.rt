@@ -79,10 +79,8 @@ pub(crate) fn in_order(
     names: &Names,
     found: IndexSet<Vec<u32>>,
 ) -> Result<Vec<Printed>, NoMemory>
-    ensures order {
-        IfOk result (λ all.
-            AreInOrder names.now (map (λ t. t.items) found.keys) (tuples_beside all.items))
-    }
+    ensures order { IfOk result (λ all.
+        AreInOrder names.now (map (λ t. t.items) found.keys) (tuples_beside all.items)) }
     ensures texts { IfOk result (λ all. HaveTexts names.now all.items) }
 {
     differ(&found);
@@ -99,10 +97,8 @@ pub(crate) fn in_order_split<R: Threads + Sync>(
     names: &Names,
     found: IndexSet<Vec<u32>>,
 ) -> Result<Vec<Printed>, NoMemory>
-    ensures order {
-        IfOk result (λ all.
-            AreInOrder names.now (map (λ t. t.items) found.keys) (tuples_beside all.items))
-    }
+    ensures order { IfOk result (λ all.
+        AreInOrder names.now (map (λ t. t.items) found.keys) (tuples_beside all.items)) }
     ensures texts { IfOk result (λ all. HaveTexts names.now all.items) }
 {
     differ(&found);

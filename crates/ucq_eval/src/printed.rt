@@ -65,11 +65,9 @@ impl<'n> Answers<'n> {
     /// The text of the tuple at a place.
     pub fn text(&self, place: usize) -> &[u8]
         requires { place < length self.now.tuples }
-        ensures {
-            (tuple : List ℕ) →
+        ensures { (tuple : List ℕ) →
             slice_get self.now.tuples place ≡ Some tuple →
-            result.now ≡ tuple_text self.now.names tuple
-        }
+            result.now ≡ tuple_text self.now.names tuple }
     {
         self.all[place].text.as_slice()
     }

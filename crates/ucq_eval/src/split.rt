@@ -81,13 +81,11 @@ fn put_into(
     mut held: IndexSet<Vec<u32>>,
     more: IndexSet<Vec<u32>>,
 ) -> Result<IndexSet<Vec<u32>>, NoMemory>
-    ensures {
-        IfOk result (λ all.
-            IsGrownBy
-                (Contains (map (λ t. t.items) more.keys))
-                (map (λ t. t.items) held.keys)
-                (map (λ t. t.items) all.keys))
-    }
+    ensures { IfOk result (λ all.
+        IsGrownBy
+        (Contains (map (λ t. t.items) more.keys))
+        (map (λ t. t.items) held.keys)
+        (map (λ t. t.items) all.keys)) }
 {
     held.extend(more)?;
     Ok(held)
@@ -150,9 +148,8 @@ pub fn answers_with_texts_split<'n, R: Threads + Sync>(
     facts: &Facts,
 ) -> Result<Answers<'n>, NoMemory>
     ensures names { IfOk result (λ answers. answers.names ≡ names.now) }
-    ensures answers {
-        IfOk result (λ answers. AreAnswers names.now union.now facts.now answers.tuples)
-    }
+    ensures answers { IfOk result (λ answers.
+        AreAnswers names.now union.now facts.now answers.tuples) }
 {
     let found = found_by_threads(rt, alloc, threads, union, facts)?;
     let all = in_order_split(rt, alloc, threads, names, found)?;

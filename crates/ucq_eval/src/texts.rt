@@ -40,12 +40,10 @@ impl Tuple {
 
 /// A comma and the text of a name, for each.
 fn push_more_names(text: &mut Vec<u8>, names: &Names, numbers: &[u32]) -> Result<(), NoMemory>
-    ensures {
-        OnOk
-            result
-            (text.new.items ≡
-                 text.old.items ++ flat_map (λ n. codes "," ++ name_text names.now n) numbers.now)
-    }
+    ensures { OnOk
+        result
+        (text.new.items ≡
+        text.old.items ++ flat_map (λ n. codes "," ++ name_text names.now n) numbers.now) }
 {
     for number in numbers {
         text.push(b',')?;
@@ -56,12 +54,10 @@ fn push_more_names(text: &mut Vec<u8>, names: &Names, numbers: &[u32]) -> Result
 
 /// The texts of names, with a comma between each two.
 fn push_joined_names(text: &mut Vec<u8>, names: &Names, numbers: &[u32]) -> Result<(), NoMemory>
-    ensures {
-        OnOk
-            result
-            (text.new.items ≡
-                 text.old.items ++ joined (codes ",") (name_text names.now) numbers.now)
-    }
+    ensures { OnOk
+        result
+        (text.new.items ≡
+        text.old.items ++ joined (codes ",") (name_text names.now) numbers.now) }
 {
     match numbers {
         [] => Ok(()),

@@ -44,9 +44,8 @@ impl Model for Facts {
 
     ghost view = { λ f. f.atoms.keys };
 
-    ghost invariant = {
-        λ f. (length f.atoms.keys ≤ FACTS) × IsIndexed f.atoms.keys f.by_predicate f.by_term
-    };
+    ghost invariant = { λ f.
+        (length f.atoms.keys ≤ FACTS) × IsIndexed f.atoms.keys f.by_predicate f.by_term };
 }
 
 impl Facts {
@@ -124,17 +123,15 @@ fn push(
     atom: &Atom,
     number: u32,
 ) -> Result<(), NoMemory>
-    ensures predicate {
-        OnOk
-            result
-            (IsPushed predicate_eq by_predicate.old (predicate_of atom.now) number by_predicate.new)
-    }
-    ensures terms {
-        OnOk result (IsPushedBefore by_term.old atom.now (length atom.now.terms) number by_term.new)
-    }
-    ensures predicates_kept {
-        OnErr result (KeepsLists predicate_eq by_predicate.old by_predicate.new)
-    }
+    ensures predicate { OnOk
+        result
+        (IsPushed predicate_eq by_predicate.old (predicate_of atom.now) number by_predicate.new) }
+    ensures terms { OnOk
+        result
+        (IsPushedBefore by_term.old atom.now (length atom.now.terms) number by_term.new) }
+    ensures predicates_kept { OnErr
+        result
+        (KeepsLists predicate_eq by_predicate.old by_predicate.new) }
     ensures terms_kept { OnErr result (KeepsLists position_eq by_term.old by_term.new) }
 {
     push_terms(by_term, atom, number)?;
@@ -149,9 +146,9 @@ fn push(
 
 // Puts the number last in the list of each of the atom's terms. After want of memory all lists are as before.
 fn push_terms(by_term: &mut Postings<Position>, atom: &Atom, number: u32) -> Result<(), NoMemory>
-    ensures pushed {
-        OnOk result (IsPushedBefore by_term.old atom.now (length atom.now.terms) number by_term.new)
-    }
+    ensures pushed { OnOk
+        result
+        (IsPushedBefore by_term.old atom.now (length atom.now.terms) number by_term.new) }
     ensures err { OnErr result (KeepsLists position_eq by_term.old by_term.new) }
 {
     for place in 0..atom.terms().len() as u32 {
@@ -169,11 +166,9 @@ fn push_terms(by_term: &mut Postings<Position>, atom: &Atom, number: u32) -> Res
 // Takes what was put last out of the lists of the atom's terms before a place.
 fn pop_terms(by_term: &mut Postings<Position>, atom: &Atom, count: u32)
     requires { count ≤ length atom.now.terms }
-    ensures {
-        (first : PostingsValue PositionValue) (number : ℕ) →
+    ensures { (first : PostingsValue PositionValue) (number : ℕ) →
         IsPushedBefore first atom.now count number by_term.old →
-        KeepsLists position_eq first by_term.new
-    }
+        KeepsLists position_eq first by_term.new }
 {
     let mut place = count;
     while place > 0 {

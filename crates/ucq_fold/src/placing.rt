@@ -24,15 +24,13 @@ fn agrees_with_first(
     requires count { count ≤ length order.now }
     requires room { length order.now ≤ length images.now }
     requires within { (i : ℕ) → i < count → slice_index images.now i < length b.now.atoms }
-    ensures {
-        IsTrue result
+    ensures { IsTrue result
         ↔ ((i : ℕ) →
-           i < count →
-           agree_all
-               (zip atom.now.terms image.now.terms)
-               (zip (visited a.now order.now i).terms (visited b.now images.now i).terms)
-               ≡ true)
-    }
+        i < count →
+        agree_all
+        (zip atom.now.terms image.now.terms)
+        (zip (visited a.now order.now i).terms (visited b.now images.now i).terms)
+        ≡ true) }
 {
     for i in 0..count {
         let earlier = a.atoms()[order[i] as usize].terms();
@@ -50,18 +48,14 @@ fn fits(a: &Query, b: &Query, order: &[u32], images: &[u32], at: usize) -> bool
     requires at { at < length order.now }
     requires room { length order.now ≤ length images.now }
     requires within { (i : ℕ) → i < at + 1 → slice_index images.now i < length b.now.atoms }
-    ensures placed {
-        result ≡ true →
+    ensures placed { result ≡ true →
         IsPlaced a.now b.now order.now images.now at →
-        IsPlaced a.now b.now order.now images.now (at + 1)
-    }
-    ensures none {
-        result ≡ false →
+        IsPlaced a.now b.now order.now images.now (at + 1) }
+    ensures none { result ≡ false →
         (h : ℕ → Term) →
         IsIsomorphism h a.now b.now →
         Leads h a.now b.now order.now images.now (at + 1) →
-        ⊥
-    }
+        ⊥ }
 {
     let atom = &a.atoms()[order[at] as usize];
     let image = &b.atoms()[images[at] as usize];
@@ -77,13 +71,11 @@ pub fn place_rest(a: &Query, b: &Query, order: &[u32], images: &mut [u32], at: u
     requires room { length order.now ≤ length images.old }
     requires placed { IsPlaced a.now b.now order.now images.old at }
     ensures found { result ≡ true → IsPlaced a.now b.now order.now images.new (length order.now) }
-    ensures none {
-        result ≡ false →
+    ensures none { result ≡ false →
         (h : ℕ → Term) →
         IsIsomorphism h a.now b.now →
         Leads h a.now b.now order.now images.old at →
-        ⊥
-    }
+        ⊥ }
     ensures kept { (i : ℕ) → i < at → slice_index images.new i ≡ slice_index images.old i }
 {
     if at >= order.len() {

@@ -21,7 +21,8 @@ fn is_same_term(a: Term, b: Term) -> bool
 /// Binds the term to the target if it is a free variable; else it must be the target, or be bound to it.
 fn match_term(bindings: &mut Bindings, term: Term, target: Term) -> bool
     requires { (v : ℕ) → term ≡ Variable v → v < VARIABLES }
-    ensures matched { result ≡ true → IsMatched bindings.old bindings.new (term ∷ []) (target ∷ []) }
+    ensures matched { result ≡ true →
+        IsMatched bindings.old bindings.new (term ∷ []) (target ∷ []) }
     ensures clash { result ≡ false → IsClash bindings.old (term ∷ []) (target ∷ []) }
     ensures undone { result ≡ false → bindings.new ≡ bindings.old }
 {
@@ -62,7 +63,8 @@ pub fn match_terms(bindings: &mut Bindings, terms: &[Term], targets: &[Term]) ->
 pub fn match_atom(bindings: &mut Bindings, atom: &Atom, target: &Atom) -> bool
     requires { HasLowTerms atom.now.terms }
     ensures name { result ≡ true → atom.now.name ≡ target.now.name }
-    ensures matched { result ≡ true → IsMatched bindings.old bindings.new atom.now.terms target.now.terms }
+    ensures matched { result ≡ true →
+        IsMatched bindings.old bindings.new atom.now.terms target.now.terms }
     ensures clash { result ≡ false → IsAtomClash bindings.old atom.now target.now }
     ensures undone { result ≡ false → bindings.new ≡ bindings.old }
 {

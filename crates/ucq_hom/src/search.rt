@@ -26,7 +26,8 @@ pub fn extend(
     requires low { HasLowAtoms from.now }
     requires room { length levels.old ≡ VARIABLES }
     requires deep { level + length places.now ≤ ATOMS }
-    ensures found { result ≡ None → IsFound bindings.old bindings.new from.now places.now (remove to.now skip) }
+    ensures found { result ≡ None →
+        IsFound bindings.old bindings.new from.now places.now (remove to.now skip) }
     ensures blocked { (set : ℕ) →
         result ≡ Some set →
         IsBlocked bindings.old levels.old set from.now places.now (remove to.now skip) }

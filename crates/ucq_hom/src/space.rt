@@ -121,7 +121,8 @@ fn may_map(bindings: &mut Bindings, from: &Query, to: &Query) -> bool
 /// Whether a homomorphism leads from the one query to the other. If so, `image_of` tells it.
 pub fn covers(space: &mut HomSpace, from: &Query, to: &Query) -> bool
     ensures covers { IsTrue result ↔ Covers from.now to.now }
-    ensures found { result ≡ true → GivesHomomorphism space.new from.now to.now.atoms to.now.answers }
+    ensures found { result ≡ true →
+        GivesHomomorphism space.new from.now to.now.atoms to.now.answers }
     ensures clear { result ≡ false → IsClear space.new }
 {
     if !may_map(&mut space.bindings, from, to) {
@@ -145,7 +146,9 @@ pub fn covers(space: &mut HomSpace, from: &Query, to: &Query) -> bool
 fn has_other_image(bindings: &mut Bindings, levels: &mut [u32], query: &Query, place: u32) -> bool
     requires within { place < length query.now.atoms }
     requires levels { length levels.old ≡ VARIABLES }
-    ensures none { result ≡ false → MapsInto query.now (remove query.now.atoms place) query.now.answers → ⊥ }
+    ensures none { result ≡ false →
+        MapsInto query.now (remove query.now.atoms place) query.now.answers →
+        ⊥ }
     ensures clear { IsClear bindings.new.images }
     ensures levels { length levels.new ≡ VARIABLES }
 {
@@ -163,7 +166,9 @@ fn has_other_image(bindings: &mut Bindings, levels: &mut [u32], query: &Query, p
 /// query needs this atom. Leaves the space as after a false answer.
 pub fn may_spare(space: &mut HomSpace, query: &Query, place: u32) -> bool
     requires { place < length query.now.atoms }
-    ensures none { result ≡ false → MapsInto query.now (remove query.now.atoms place) query.now.answers → ⊥ }
+    ensures none { result ≡ false →
+        MapsInto query.now (remove query.now.atoms place) query.now.answers →
+        ⊥ }
     ensures clear { IsClear space.new }
 {
     has_other_image(
@@ -178,7 +183,8 @@ pub fn may_spare(space: &mut HomSpace, query: &Query, place: u32) -> bool
 /// `image_of` tells it.
 pub fn find_without(space: &mut HomSpace, query: &Query, skip: u32) -> bool
     requires { skip < length query.now.atoms }
-    ensures maps { IsTrue result ↔ MapsInto query.now (remove query.now.atoms skip) query.now.answers }
+    ensures maps { IsTrue result
+        ↔ MapsInto query.now (remove query.now.atoms skip) query.now.answers }
     ensures found { result ≡ true →
         GivesHomomorphism space.new query.now (remove query.now.atoms skip) query.now.answers }
     ensures clear { result ≡ false → IsClear space.new }

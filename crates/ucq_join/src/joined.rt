@@ -28,22 +28,18 @@ impl Model for Joined {
 
     ghost Value = { Named };
 
-    ghost view = {
-        λ j.
-            record {
-                members = j.members.items;
-                names = j.names.items;
-                constants = j.constants;
-                variables = j.variables;
-                width = j.width;
-            }
-    };
+    ghost view = { λ j.
+        record {
+          members = j.members.items;
+          names = j.names.items;
+          constants = j.constants;
+          variables = j.variables;
+          width = j.width;
+        } };
 
-    ghost invariant = {
-        λ j.
-            (length j.names.items ≡ j.constants + j.variables + length j.members.items * j.width)
-            × (length j.names.items < 2 ^ 32)
-    };
+    ghost invariant = { λ j.
+        (length j.names.items ≡ j.constants + j.variables + length j.members.items * j.width)
+        × (length j.names.items < 2 ^ 32) };
 }
 
 impl Joined {
@@ -85,10 +81,8 @@ fn name(constants: &[u32], label: u32) -> Term
 /// The names of the numbers by their classes.
 fn names(alloc: Global, classes: &Classes, count: u32) -> Result<Vec<Term>, NoMemory>
     requires { count ≤ size classes.now.numbers }
-    ensures {
-        IfOk result (λ names.
-            AreNames classes.now.numbers.constants classes.now.labels count names.items)
-    }
+    ensures { IfOk result (λ names.
+        AreNames classes.now.numbers.constants classes.now.labels count names.items) }
 {
     let constants = classes.numbering().constants();
     let mut names = Vec::with_capacity(alloc, count as usize)?;

@@ -27,22 +27,24 @@ impl<'p> Model for Joins<'p> {
 
     ghost Value = { Walk };
 
-    ghost view = {
-        λ w.
-            record {
-                query = w.query.now;
-                rule = w.rule.now;
-                pieces = w.pieces.now;
-                present = w.present.items;
-            }
-    };
+    ghost view = { λ w.
+        record {
+          query = w.query.now;
+          rule = w.rule.now;
+          pieces = w.pieces.now;
+          present = w.present.items;
+        } };
 
-    ghost invariant = {
-        λ w.
-            IsWalking
-                (record { query = w.query.now; rule = w.rule.now; pieces = w.pieces.now; present = w.present.items })
-                w.numbering w.width
-    };
+    ghost invariant = { λ w.
+        IsWalking
+        (record {
+          query = w.query.now;
+          rule = w.rule.now;
+          pieces = w.pieces.now;
+          present = w.present.items;
+        })
+        w.numbering
+        w.width };
 }
 
 impl<'p> Joins<'p> {
@@ -54,16 +56,14 @@ impl<'p> Joins<'p> {
         pieces: &'p [Piece],
     ) -> Result<Joins<'p>, NoMemory>
         requires { ArePieces query.now rule.now pieces.now }
-        ensures {
-            IfOk result (λ w.
-                w ≡
-                    record {
-                        query = query.now;
-                        rule = rule.now;
-                        pieces = pieces.now;
-                        present = [];
-                    })
-        }
+        ensures { IfOk result (λ w.
+            w ≡
+            record {
+              query = query.now;
+              rule = rule.now;
+              pieces = pieces.now;
+              present = [];
+            }) }
     {
         Ok(Joins {
             query,

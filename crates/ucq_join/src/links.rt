@@ -16,11 +16,9 @@ pub fn link_piece(classes: &mut Classes, query: &Query, rule: &Rule, copy: u32, 
     requires heads { NumbersHeads classes.old.numbers copy rule.now }
     requires keeps { KeepsEach query.now rule.now piece.now }
     ensures numbers { classes.new.numbers ≡ classes.old.numbers }
-    ensures linked {
-        (before : List (Node × Node)) →
+    ensures linked { (before : List (Node × Node)) →
         IsClassed before classes.old →
-        IsClassed (before ++ links query.now copy rule.now piece.now) classes.new
-    }
+        IsClassed (before ++ links query.now copy rule.now piece.now) classes.new }
 {
     let atoms = query.atoms();
     let heads = rule.heads();
@@ -51,9 +49,9 @@ pub fn link_members(
     requires few { length members.now ≤ ATOMS }
     requires room { length members.now ≤ length classes.old.numbers.widths }
     requires within { (place : ℕ) → Contains members.now place → place < length pieces.now }
-    requires keeps {
-        (piece : List (ℕ × ℕ)) → Contains pieces.now piece → KeepsEach query.now rule.now piece
-    }
+    requires keeps { (piece : List (ℕ × ℕ)) →
+        Contains pieces.now piece →
+        KeepsEach query.now rule.now piece }
     ensures numbers { classes.new.numbers ≡ classes.old.numbers }
     ensures linked { IsClassed (links_at query.now rule.now pieces.now members.now) classes.new }
 {

@@ -28,12 +28,10 @@ fn overlaps(piece: &Piece, other: &Piece) -> bool
 fn is_apart(pieces: &[Piece], members: &[usize], place: usize) -> bool
     requires within { (member : ℕ) → Contains members.now member → member < length pieces.now }
     requires place { place < length pieces.now }
-    ensures {
-        IsTrue result
+    ensures { IsTrue result
         ↔ ((member : ℕ) →
-           Contains members.now member →
-           AreApart (piece_member pieces.now member) (piece_member pieces.now place))
-    }
+        Contains members.now member →
+        AreApart (piece_member pieces.now member) (piece_member pieces.now place)) }
 {
     for i in 0..members.len() {
         if overlaps(piece_at(pieces, members[i]), &pieces[place]) {
@@ -58,16 +56,13 @@ fn joins(
     requires start { IsStart query.now rule.now pieces.now members.now place }
     requires place { place < length pieces.now }
     ensures numbers { classes.new.numbers ≡ classes.old.numbers }
-    ensures join {
-        result ≡ true → IsJoin query.now rule.now pieces.now (members.now ++ place ∷ [])
-    }
-    ensures none {
-        result ≡ false → IsJoin query.now rule.now pieces.now (members.now ++ place ∷ []) → ⊥
-    }
-    ensures classed {
-        result ≡ true →
-        IsClassed (links_at query.now rule.now pieces.now (members.now ++ place ∷ [])) classes.new
-    }
+    ensures join { result ≡ true →
+        IsJoin query.now rule.now pieces.now (members.now ++ place ∷ []) }
+    ensures none { result ≡ false →
+        IsJoin query.now rule.now pieces.now (members.now ++ place ∷ []) →
+        ⊥ }
+    ensures classed { result ≡ true →
+        IsClassed (links_at query.now rule.now pieces.now (members.now ++ place ∷ [])) classes.new }
 {
     if !is_apart(pieces, members, place) {
         return false;
@@ -93,11 +88,9 @@ fn first_joining(
     requires start { IsStart query.now rule.now pieces.now members.now start }
     ensures numbers { classes.new.numbers ≡ classes.old.numbers }
     ensures first { IsFirstFrom query.now rule.now pieces.now members.now start result }
-    ensures classed {
-        (place : ℕ) →
+    ensures classed { (place : ℕ) →
         result ≡ Some place →
-        IsClassed (links_at query.now rule.now pieces.now (members.now ++ place ∷ [])) classes.new
-    }
+        IsClassed (links_at query.now rule.now pieces.now (members.now ++ place ∷ [])) classes.new }
 {
     for place in start..pieces.len() {
         if joins(classes, query, rule, pieces, members, place) {
@@ -136,21 +129,22 @@ pub fn advance(
     requires numbered { AreNumbered query.now rule.now classes.old.numbers }
     requires pieces { ArePieces query.now rule.now pieces.now }
     requires room { vec_len members.old + 1 ≤ length classes.old.numbers.widths }
-    requires present {
-        (members.old.items ≡ []) ⊎ IsJoin query.now rule.now pieces.now members.old.items
-    }
+    requires present { (members.old.items ≡ [])
+        ⊎ IsJoin query.now rule.now pieces.now members.old.items }
     ensures numbers { classes.new.numbers ≡ classes.old.numbers }
-    ensures advanced {
-        IfOk result (λ found.
-            IsAdvanced
-                (record { query = query.now; rule = rule.now; pieces = pieces.now; present = members.old.items })
-                members.new.items found)
-    }
-    ensures classed {
-        IfOk result (λ found.
-            found ≡ true →
-            IsClassed (links_at query.now rule.now pieces.now members.new.items) classes.new)
-    }
+    ensures advanced { IfOk result (λ found.
+        IsAdvanced
+        (record {
+          query = query.now;
+          rule = rule.now;
+          pieces = pieces.now;
+          present = members.old.items;
+        })
+        members.new.items
+        found) }
+    ensures classed { IfOk result (λ found.
+        found ≡ true →
+        IsClassed (links_at query.now rule.now pieces.now members.new.items) classes.new) }
     ensures length { IfOk result (λ found. vec_len members.new ≤ vec_len members.old + 1) }
 {
     let count = pieces.len();

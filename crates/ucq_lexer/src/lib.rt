@@ -73,7 +73,9 @@ fn token_at(text: &[u8], place: usize) -> Option<Token>
     requires length { length text.now ≤ BYTES }
     requires inside { place ≤ length text.now }
     ensures found { IfSome result (λ token. IsTokenAt text.now place token) }
-    ensures none { IfNone result ((kind : Kind) (count : ℕ) → Begins (drop place text.now) kind count → ⊥) }
+    ensures none { IfNone
+        result
+        ((kind : Kind) (count : ℕ) → Begins (drop place text.now) kind count → ⊥) }
 {
     match front(&text[place..]) {
         Some((kind, size)) => {

@@ -55,15 +55,13 @@ impl Model for Entry {
 
     ghost Value = { Placed };
 
-    ghost view = {
-        λ e.
-            record {
-                place = e.pushed.index;
-                row = e.pushed.value.row;
-                query = e.pushed.value.query;
-                mark = record { part = e.pushed.bucket; name = e.pushed.row };
-            }
-    };
+    ghost view = { λ e.
+        record {
+          place = e.pushed.index;
+          row = e.pushed.value.row;
+          query = e.pushed.value.query;
+          mark = record { part = e.pushed.bucket; name = e.pushed.row };
+        } };
 
     ghost invariant = { λ e. e.signature ≡ signature_of e.pushed.value.query };
 }

@@ -40,10 +40,8 @@ pub trait Shelf {
     /// `Failed` comes only where the shelf's count of faults rose in this call.
     fn pull(&mut self, name: &str, place: u64, into: &mut [u8]) -> Result<usize, Failed>
         ensures bound { IfOk result (λ n. n ≤ length into.new) }
-        ensures bytes {
-            IfOk result (λ n.
-                IfSome (held self.old name.now) (λ file. IsPiece file place n into.new))
-        }
+        ensures bytes { IfOk result (λ n.
+            IfSome (held self.old name.now) (λ file. IsPiece file place n into.new)) }
         ensures held { (n : List ℕ) → held self.new n ≡ held self.old n }
         ensures cause { HasCause (faults self.old) (faults self.new) result };
 }

@@ -38,15 +38,13 @@ impl Model for MemorySink {
 
     ghost Value = { FailingSink };
 
-    ghost view = {
-        λ s.
-            record {
-                failing = s.failing.items;
-                calls = s.calls;
-                faults = s.faults;
-                taken = s.bytes.items;
-            }
-    };
+    ghost view = { λ s.
+        record {
+          failing = s.failing.items;
+          calls = s.calls;
+          faults = s.faults;
+          taken = s.bytes.items;
+        } };
 
     ghost invariant = { λ s. (length s.bytes.items ≤ ROOM) × (ROOM ≤ vec_capacity s.bytes) };
 }
@@ -56,10 +54,8 @@ impl MemorySink {
     ///
     /// `NoMemoryOutside` comes where its room can't be had.
     pub fn new(alloc: Global, failing: Vec<u64>) -> Result<MemorySink, NoMemoryOutside>
-        ensures {
-            IfOk result (λ sink.
-                sink ≡ record { failing = failing.items; calls = 0; faults = 0; taken = [] })
-        }
+        ensures { IfOk result (λ sink.
+            sink ≡ record { failing = failing.items; calls = 0; faults = 0; taken = [] }) }
     {
         let bytes = Vec::with_capacity(alloc, ROOM)?;
         Ok(MemorySink {

@@ -45,29 +45,25 @@ impl Model for MemoryShelf {
 
     ghost Value = { FailingShelf };
 
-    ghost view = {
-        λ s.
-            record {
-                files = files_of s.files.items;
-                failing = s.failing.items;
-                calls = s.calls;
-                faults = s.faults;
-            }
-    };
+    ghost view = { λ s.
+        record {
+          files = files_of s.files.items;
+          failing = s.failing.items;
+          calls = s.calls;
+          faults = s.faults;
+        } };
 }
 
 impl MemoryShelf {
     /// A shelf of these files, whose calls with the numbers in `failing` fail. Of files with equal names the first counts.
     pub fn new(files: Vec<(String, Vec<u8>)>, failing: Vec<u64>) -> MemoryShelf
-        ensures {
-            result ≡
-                record {
-                    files = files_of files.items;
-                    failing = failing.items;
-                    calls = 0;
-                    faults = 0;
-                }
-        }
+        ensures { result ≡
+            record {
+              files = files_of files.items;
+              failing = failing.items;
+              calls = 0;
+              faults = 0;
+            } }
     {
         MemoryShelf {
             files,
@@ -90,10 +86,8 @@ impl Shelf for MemoryShelf {
 
         // What each shelf ensures.
         ensures bound { IfOk result (λ n. n ≤ length into.new) }
-        ensures bytes {
-            IfOk result (λ n.
-                IfSome (file_named name.now self.old.files) (λ file. IsPiece file place n into.new))
-        }
+        ensures bytes { IfOk result (λ n.
+            IfSome (file_named name.now self.old.files) (λ file. IsPiece file place n into.new)) }
         ensures held { (n : List ℕ) → file_named n self.new.files ≡ file_named n self.old.files }
         ensures cause { HasCause self.old.faults self.new.faults result }
     {
@@ -139,21 +133,17 @@ impl Shelf for SureShelf {
 
     /// Gives as many bytes as fit. Takes time in the number of files.
     fn pull(&mut self, name: &str, place: u64, into: &mut [u8]) -> Result<usize, Failed>
-        ensures answer {
-            (n : ℕ)
+        ensures answer { (n : ℕ)
             × (result ≡ Ok n)
-            × Gives (file_or_empty name.now self.old) place into.old into.new n
-        }
+            × Gives (file_or_empty name.now self.old) place into.old into.new n }
         ensures after { self.new ≡ self.old }
 
         // What each shelf ensures.
         ensures bound { IfOk result (λ n. n ≤ length into.new) }
-        ensures bytes {
-            IfOk result (λ n. IsPiece (file_or_empty name.now self.old) place n into.new)
-        }
-        ensures held {
-            (n : List ℕ) → Some (file_or_empty n self.new) ≡ Some (file_or_empty n self.old)
-        }
+        ensures bytes { IfOk result (λ n.
+            IsPiece (file_or_empty name.now self.old) place n into.new) }
+        ensures held { (n : List ℕ) →
+            Some (file_or_empty n self.new) ≡ Some (file_or_empty n self.old) }
         ensures cause { HasCause 0 0 result }
     {
         match file_of(self.files.as_slice(), name) {

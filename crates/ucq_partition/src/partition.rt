@@ -47,11 +47,9 @@ impl Partition {
         requires a { a < length self.old }
         requires b { b < length self.old }
         ensures size { length self.new ≡ length self.old }
-        ensures made {
-            (joins : List (ℕ × ℕ)) →
+        ensures made { (joins : List (ℕ × ℕ)) →
             IsMadeBy joins self.old →
-            IsMadeBy (joins ++ (a, b) ∷ []) self.new
-        }
+            IsMadeBy (joins ++ (a, b) ∷ []) self.new }
     {
         let first = self.labels[a as usize];
         let second = self.labels[b as usize];
@@ -66,9 +64,9 @@ impl Partition {
     pub fn same(&self, a: u32, b: u32) -> bool
         requires a { a < length self.now }
         requires b { b < length self.now }
-        ensures {
-            (joins : List (ℕ × ℕ)) → IsMadeBy joins self.now → (IsTrue result ↔ AreLinked joins a b)
-        }
+        ensures { (joins : List (ℕ × ℕ)) →
+            IsMadeBy joins self.now →
+            (IsTrue result ↔ AreLinked joins a b) }
     {
         self.labels[a as usize] == self.labels[b as usize]
     }
@@ -77,15 +75,13 @@ impl Partition {
     pub fn label(&self, a: u32) -> u32
         requires { a < length self.now }
         ensures value { result ≡ label_of self.now a }
-        ensures linked {
-            (joins : List (ℕ × ℕ)) → IsMadeBy joins self.now → AreLinked joins a result
-        }
-        ensures least {
-            (joins : List (ℕ × ℕ)) (b : ℕ) →
+        ensures linked { (joins : List (ℕ × ℕ)) →
+            IsMadeBy joins self.now →
+            AreLinked joins a result }
+        ensures least { (joins : List (ℕ × ℕ)) (b : ℕ) →
             IsMadeBy joins self.now →
             AreLinked joins a b →
-            result ≤ b
-        }
+            result ≤ b }
     {
         self.labels[a as usize]
     }

@@ -39,10 +39,8 @@ pub fn answer_line_count(answers: &Answers) -> u64
 /// is made anew. The only error is want of memory.
 pub fn answer_line(alloc: Global, answers: &Answers, place: u64) -> Result<Vec<u8>, NoMemory>
     requires { place < length (answer_lines answers.now.names answers.now.tuples) }
-    ensures {
-        IfOk result (λ line.
-            slice_get (answer_lines answers.now.names answers.now.tuples) place ≡ Some line.items)
-    }
+    ensures { IfOk result (λ line.
+        slice_get (answer_lines answers.now.names answers.now.tuples) place ≡ Some line.items) }
 {
     match place {
         0 => number_line(alloc, b"% answers ", answers.len() as u64),
@@ -67,10 +65,8 @@ pub fn summary_line(
     place: u64,
 ) -> Result<Vec<u8>, NoMemory>
     requires { place < length (summary_lines queries atoms answers) }
-    ensures {
-        IfOk result (λ line.
-            slice_get (summary_lines queries atoms answers) place ≡ Some line.items)
-    }
+    ensures { IfOk result (λ line.
+        slice_get (summary_lines queries atoms answers) place ≡ Some line.items) }
 {
     match place {
         0 => Ok(Vec::from_slice(alloc, b"% finished\n")?),

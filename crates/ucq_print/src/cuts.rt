@@ -41,9 +41,8 @@ pub fn row_line<R: Rows>(
     row: u32,
 ) -> Result<Vec<u8>, NoMemory>
     requires { row < length (R.value rows.now).rows }
-    ensures {
-        IfOk result (λ line. line.items ≡ row_line names.now (row_at (R.value rows.now).rows row))
-    }
+    ensures { IfOk result (λ line.
+        line.items ≡ row_line names.now (row_at (R.value rows.now).rows row)) }
 {
     let life: &[u8] = if rows.is_live_at(row) {
         b""
@@ -68,19 +67,15 @@ fn line_of_rows_cut<R: Rows>(
     left: &Query,
     place: u32,
 ) -> Result<Vec<u8>, NoMemory>
-    requires {
-        place <
-            length
-                (rows_cut_lines names.now (R.value rows.now).budget (R.value rows.now).rows
-                     left.now)
-    }
-    ensures {
-        IfOk result (λ line.
-            slice_get
-                (rows_cut_lines names.now (R.value rows.now).budget (R.value rows.now).rows left.now)
-                place
-                ≡ Some line.items)
-    }
+    requires { place <
+        length
+        (rows_cut_lines names.now (R.value rows.now).budget (R.value rows.now).rows
+        left.now) }
+    ensures { IfOk result (λ line.
+        slice_get
+        (rows_cut_lines names.now (R.value rows.now).budget (R.value rows.now).rows left.now)
+        place
+        ≡ Some line.items) }
 {
     if place == 0 {
         rows_cut_line(alloc, rows.limit())
@@ -101,11 +96,9 @@ fn line_of_wide_cut<R: Rows>(
     place: u32,
 ) -> Result<Vec<u8>, NoMemory>
     requires { place < length (wide_cut_lines names.now row rule (R.value rows.now).rows) }
-    ensures {
-        IfOk result (λ line.
-            slice_get (wide_cut_lines names.now row rule (R.value rows.now).rows) place
-                ≡ Some line.items)
-    }
+    ensures { IfOk result (λ line.
+        slice_get (wide_cut_lines names.now row rule (R.value rows.now).rows) place
+        ≡ Some line.items) }
 {
     if place == 0 {
         wide_cut_line(alloc, row, rule)
@@ -135,10 +128,8 @@ pub fn cut_line<R: Rows>(
     place: u32,
 ) -> Result<Vec<u8>, NoMemory>
     requires { place < length (rows_lines names.now (R.value rows.now)) }
-    ensures {
-        IfOk result (λ line.
-            slice_get (rows_lines names.now (R.value rows.now)) place ≡ Some line.items)
-    }
+    ensures { IfOk result (λ line.
+        slice_get (rows_lines names.now (R.value rows.now)) place ≡ Some line.items) }
 {
     match rows.why_cut() {
         Some(Cut::Rows { left }) => line_of_rows_cut(alloc, names, rows, left, place),

@@ -23,12 +23,10 @@ fn push_term(text: &mut Vec<u8>, names: &Names, term: Term) -> Result<(), NoMemo
 
 /// A comma and a term, for each.
 fn push_more_terms(text: &mut Vec<u8>, names: &Names, terms: &[Term]) -> Result<(), NoMemory>
-    ensures {
-        OnOk
-            result
-            (text.new.items ≡
-                 text.old.items ++ flat_map (λ t. codes "," ++ term_text names.now t) terms.now)
-    }
+    ensures { OnOk
+        result
+        (text.new.items ≡
+        text.old.items ++ flat_map (λ t. codes "," ++ term_text names.now t) terms.now) }
 {
     for term in terms {
         text.push(b',')?;
@@ -39,11 +37,9 @@ fn push_more_terms(text: &mut Vec<u8>, names: &Names, terms: &[Term]) -> Result<
 
 /// The terms, with a comma between each two.
 fn push_joined_terms(text: &mut Vec<u8>, names: &Names, terms: &[Term]) -> Result<(), NoMemory>
-    ensures {
-        OnOk
-            result
-            (text.new.items ≡ text.old.items ++ joined (codes ",") (term_text names.now) terms.now)
-    }
+    ensures { OnOk
+        result
+        (text.new.items ≡ text.old.items ++ joined (codes ",") (term_text names.now) terms.now) }
 {
     match terms {
         [] => Ok(()),
@@ -73,12 +69,10 @@ fn push_atom(text: &mut Vec<u8>, names: &Names, atom: &Atom) -> Result<(), NoMem
 
 /// A comma, a space and an atom, for each.
 fn push_more_atoms(text: &mut Vec<u8>, names: &Names, atoms: &[Atom]) -> Result<(), NoMemory>
-    ensures {
-        OnOk
-            result
-            (text.new.items ≡
-                 text.old.items ++ flat_map (λ a. codes ", " ++ atom_text names.now a) atoms.now)
-    }
+    ensures { OnOk
+        result
+        (text.new.items ≡
+        text.old.items ++ flat_map (λ a. codes ", " ++ atom_text names.now a) atoms.now) }
 {
     for atom in atoms {
         text.extend_from_slice(b", ")?;
@@ -89,11 +83,9 @@ fn push_more_atoms(text: &mut Vec<u8>, names: &Names, atoms: &[Atom]) -> Result<
 
 /// The atoms, with a comma and a space between each two.
 fn push_joined_atoms(text: &mut Vec<u8>, names: &Names, atoms: &[Atom]) -> Result<(), NoMemory>
-    ensures {
-        OnOk
-            result
-            (text.new.items ≡ text.old.items ++ joined (codes ", ") (atom_text names.now) atoms.now)
-    }
+    ensures { OnOk
+        result
+        (text.new.items ≡ text.old.items ++ joined (codes ", ") (atom_text names.now) atoms.now) }
 {
     match atoms {
         [] => Ok(()),

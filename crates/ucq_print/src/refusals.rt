@@ -62,47 +62,38 @@ fn limit_text(alloc: Global, word: &str, count: u32) -> Result<String, AllocErro
 }
 
 fn bad_statement_text(alloc: Global, at: u32) -> Result<String, AllocError>
-    ensures {
-        IfOk result (λ text.
-            string_bytes text ≡ codes " byte " ++ decimal at ++ codes ": bad statement")
-    }
+    ensures { IfOk result (λ text.
+        string_bytes text ≡ codes " byte " ++ decimal at ++ codes ": bad statement") }
 {
     format!(in alloc; " byte {at}: bad statement")
 }
 
 fn not_built_text(alloc: Global, kind: NotBuiltKind) -> Result<String, AllocError>
-    ensures {
-        IfOk result (λ text.
-            string_bytes text ≡ codes ": " ++ kind_word kind ++ codes " is not built")
-    }
+    ensures { IfOk result (λ text.
+        string_bytes text ≡ codes ": " ++ kind_word kind ++ codes " is not built") }
 {
     let word = kind_word(kind);
     format!(in alloc; ": {word} is not built")
 }
 
 fn unsafe_text(alloc: Global, place: u32) -> Result<String, AllocError>
-    ensures {
-        IfOk result (λ text.
-            string_bytes text ≡ codes ": answer " ++ decimal place ++ codes " is not in the body")
-    }
+    ensures { IfOk result (λ text.
+        string_bytes text ≡ codes ": answer " ++ decimal place ++ codes " is not in the body") }
 {
     format!(in alloc; ": answer {place} is not in the body")
 }
 
 fn statement_limit_text(alloc: Global, which: Which, count: u32) -> Result<String, AllocError>
-    ensures {
-        IfOk result (λ text. string_bytes text ≡ codes ": " ++ limit_text (limit_word which) count)
-    }
+    ensures { IfOk result (λ text.
+        string_bytes text ≡ codes ": " ++ limit_text (limit_word which) count) }
 {
     let text = limit_text(alloc, limit_word(which), count)?;
     format!(in alloc; ": {text}")
 }
 
 fn many_text(alloc: Global, which: Whole, count: u32) -> Result<String, AllocError>
-    ensures {
-        IfOk result (λ text.
-            string_bytes text ≡ codes "ucq: " ++ limit_text (whole_word which) count)
-    }
+    ensures { IfOk result (λ text.
+        string_bytes text ≡ codes "ucq: " ++ limit_text (whole_word which) count) }
 {
     let text = limit_text(alloc, whole_word(which), count)?;
     format!(in alloc; "ucq: {text}")

@@ -33,10 +33,8 @@ pub trait Rows {
 
     /// The cut, if it is cut.
     fn why_cut(&self) -> Option<&Cut>
-        ensures {
-            MatchOption result ((value self.now).cut ≡ None) (λ cut.
-                (value self.now).cut ≡ Some cut.now)
-        };
+        ensures { MatchOption result ((value self.now).cut ≡ None) (λ cut.
+            (value self.now).cut ≡ Some cut.now) };
 }
 
 impl<'p> Rows for Store<'p> {

@@ -132,7 +132,8 @@ impl Numbers {
         ensures numbered { OnOk
             result
             (HasNumbered self.old self.new (token_symbol text.now declarations.now token ∷ [])) }
-        ensures term { IfOk result (λ t. IsTermOf self.new (token_symbol text.now declarations.now token) t) }
+        ensures term { IfOk result (λ t.
+            IsTermOf self.new (token_symbol text.now declarations.now token) t) }
         ensures err { IfErr result (λ e. e ≡ Memory) }
     {
         match token.kind {
@@ -184,14 +185,17 @@ impl Numbers {
         form: &AtomForm,
     ) -> Result<Atom, ReadFault>
         requires few { HasFewTerms form.now }
-        requires room { HasRoom self.old (length (atom_symbols (form_atom text.now declarations.now form.now))) }
+        requires room { HasRoom
+            self.old
+            (length (atom_symbols (form_atom text.now declarations.now form.now))) }
         ensures numbered { OnOk
             result
             (HasNumbered
             self.old
             self.new
             (atom_symbols (form_atom text.now declarations.now form.now))) }
-        ensures atom { IfOk result (λ a. IsAtomOf self.new (form_atom text.now declarations.now form.now) a) }
+        ensures atom { IfOk result (λ a.
+            IsAtomOf self.new (form_atom text.now declarations.now form.now) a) }
         ensures err { IfErr result (λ e. e ≡ Memory) }
     {
         let name = self.name(text, declarations, form.name)?;
@@ -324,7 +328,8 @@ impl Numbers {
     ) -> Result<Query, ReadFault>
         requires terms { HaveFewTerms body.now }
         requires few_atoms { length body.now.others.items < 32 }
-        requires few_answers { length (written_query text.now declarations.now answers.now body.now).answers ≤ 16 }
+        requires few_answers { length (written_query text.now declarations.now answers.now body.now).answers
+            ≤ 16 }
         requires safe { IsSafeQuery (written_query text.now declarations.now answers.now body.now) }
         requires names { length self.old.names +
             length
@@ -376,9 +381,13 @@ impl Numbers {
             (answer_terms (answers_view text.now answers.now)))) }
         ensures terms { OnOk
             result
-            (AddsTerms self.new
-            (map (symbol (declared_view text.now declarations.now)) (answer_terms (answers_view text.now answers.now)))
-            built.old.items built.new.items) }
+            (AddsTerms
+            self.new
+            (map
+            (symbol (declared_view text.now declarations.now))
+            (answer_terms (answers_view text.now answers.now)))
+            built.old.items
+            built.new.items) }
         ensures err { IfErr result (λ e. e ≡ Memory) }
     {
         match answers {

@@ -218,7 +218,8 @@ fn many_answers(form: &StatementForm) -> Option<usize>
 
 /// The number of the atoms, where there are too many.
 fn many_atoms(atoms: &Several<AtomForm>) -> Option<usize>
-    ensures { (text : List ℕ) → result ≡ first_above 32 (length (listed (atoms_view text atoms.now)) ∷ []) }
+    ensures { (text : List ℕ) →
+        result ≡ first_above 32 (length (listed (atoms_view text atoms.now)) ∷ []) }
 {
     above(ATOMS, atoms.others.len() + 1)
 }
@@ -268,7 +269,8 @@ fn has_variable(text: &[u8], variable: &[u8], atom: &AtomForm) -> bool
 
 /// Whether the token is a variable that no atom has.
 fn is_loose(text: &[u8], atoms: &Several<AtomForm>, token: Token) -> bool
-    ensures { result ≡ spec_is_loose (listed (atoms_view text.now atoms.now)) (term_view text.now token) }
+    ensures { result ≡
+        spec_is_loose (listed (atoms_view text.now atoms.now)) (term_view text.now token) }
 {
     match token.kind {
         Kind::Variable => !is_held(text, atoms, slice_of(text, token)),
@@ -278,7 +280,8 @@ fn is_loose(text: &[u8], atoms: &Several<AtomForm>, token: Token) -> bool
 
 /// Whether an atom has that variable.
 fn is_held(text: &[u8], atoms: &Several<AtomForm>, variable: &[u8]) -> bool
-    ensures { result ≡ list_any (spec_has_variable variable.now) (listed (atoms_view text.now atoms.now)) }
+    ensures { result ≡
+        list_any (spec_has_variable variable.now) (listed (atoms_view text.now atoms.now)) }
 {
     if has_variable(text, variable, &atoms.first) {
         return true;
@@ -317,7 +320,8 @@ fn passed_limit(
     requires text { length text.now ≤ BYTES }
     requires tokens { length tokens.now ≤ BYTES }
     requires spelled { IsSpelled text.now tokens.now form.now }
-    ensures value { result ≡ spec_passed_limit (placed_view 0 0 text.now declarations.now [] form.now) }
+    ensures value { result ≡
+        spec_passed_limit (placed_view 0 0 text.now declarations.now [] form.now) }
     ensures small { IfSome result (λ passed. passed.1 ≤ 2 ^ 28) }
 {
     if let Some(count) = long_name_of(text, declarations, tokens, form) {
@@ -363,7 +367,8 @@ fn limit(
 /// The refusal of the first answer that no atom has.
 fn unsafe_answer(text: &[u8], place: Place, form: &StatementForm) -> Option<ReadFault>
     requires { length (written_answers (statement_view text.now form.now)) ≤ BYTES }
-    ensures { result ≡ spec_unsafe_answer (placed_view place.file place.number text.now [] [] form.now) }
+    ensures { result ≡
+        spec_unsafe_answer (placed_view place.file place.number text.now [] [] form.now) }
 {
     match form {
         StatementForm::Sentence {

@@ -69,7 +69,11 @@ fn take_statement(
     ensures grown { OnOk result (IsGrown gathered.old gathered.new (length tokens.now)) }
     ensures fault { IfErr result (λ f.
         OrMemory
-        (λ (g : ReadFault). spec_statement_fault (placed_view place.file place.number text.now declarations.now tokens.now form.now) ≡ Some g)
+        (λ (g : ReadFault).
+        spec_statement_fault
+        (placed_view place.file place.number text.now declarations.now tokens.now
+        form.now)
+        ≡ Some g)
         f) }
 {
     if let Some(fault) = statement_fault(text, declarations, place, tokens, form) {
@@ -101,7 +105,11 @@ fn admit(
         gathered.new) }
     ensures fault { IfErr result (λ f.
         OrMemory
-        (λ (g : ReadFault). spec_statement_fault (placed_view place.file place.number text.now declarations.old.items tokens.now form.now) ≡ Some g)
+        (λ (g : ReadFault).
+        spec_statement_fault
+        (placed_view place.file place.number text.now declarations.old.items
+        tokens.now form.now)
+        ≡ Some g)
         f) }
 {
     take_statement(
@@ -133,9 +141,19 @@ fn judge(
     requires spelled { IsSpelled text.now tokens.now form.now }
     requires names { refusal ≡ None → length gathered.old.names + length tokens.now < 2 ^ 32 - 1 }
     requires unknowns { refusal ≡ None → gathered.old.unknowns + length tokens.now < 2 ^ 32 - 1 }
-    ensures { IsJudged refusal
-        (placed_view place.file place.number text.now declarations.old.items tokens.now form.now)
-        (IsAdmitted text.now (placed_view place.file place.number text.now declarations.old.items tokens.now form.now) (length tokens.now) declarations.old.items declarations.new.items gathered.old gathered.new)
+    ensures { IsJudged
+        refusal
+        (placed_view place.file place.number text.now declarations.old.items tokens.now
+        form.now)
+        (IsAdmitted
+        text.now
+        (placed_view place.file place.number text.now declarations.old.items tokens.now
+        form.now)
+        (length tokens.now)
+        declarations.old.items
+        declarations.new.items
+        gathered.old
+        gathered.new)
         result }
 {
     match refusal {
@@ -212,7 +230,9 @@ fn take_file(
 fn whole_fault(gathered: &Gathered) -> Option<ReadFault>
     requires rules { length gathered.now.rules < 2 ^ 32 }
     requires facts { length gathered.now.facts < 2 ^ 32 }
-    ensures whole { (all : List Placed) → IsGathered all gathered.now → IsWhole all gathered.now result }
+    ensures whole { (all : List Placed) →
+        IsGathered all gathered.now →
+        IsWhole all gathered.now result }
     ensures few_rules { result ≡ None → length gathered.now.rules ≤ RULES }
     ensures few_facts { result ≡ None → length gathered.now.facts ≤ FACTS }
 {

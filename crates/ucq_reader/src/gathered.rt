@@ -87,7 +87,15 @@ impl Gathered {
             ((all : List Placed) (starts : List ℕ) →
             IsGathered all self.old →
             IsGathered
-            (all ++ (record { file = file; number = number; starts = starts; before = declared_view text.now declarations.now; statement = statement_view text.now statement.now }) ∷ [])
+            (all ++
+            (record {
+              file = file;
+              number = number;
+              starts = starts;
+              before = declared_view text.now declarations.now;
+              statement = statement_view text.now statement.now;
+            })
+            ∷ [])
             self.new) }
 
         // Names and unknown values are words of the statement.
@@ -193,7 +201,8 @@ impl Gathered {
     ) -> Result<(), ReadFault>
         requires body_terms { HaveFewTerms body.now }
         requires few_body { length body.now.others.items < 32 }
-        requires few_answers { length (written_query text.now declarations.now answers.now body.now).answers ≤ 16 }
+        requires few_answers { length (written_query text.now declarations.now answers.now body.now).answers
+            ≤ 16 }
         requires safe { IsSafeQuery (written_query text.now declarations.now answers.now body.now) }
         requires names { length self.old.names +
             length

@@ -79,7 +79,9 @@ fn binary(
     second: &[u8],
 ) -> Result<Atom, NoMemory>
     requires { length names.old + 3 < 2 ^ 32 - 1 }
-    ensures names { OnOk result (names.new ≡ with_names names.old (name.now ∷ first.now ∷ second.now ∷ [])) }
+    ensures names { OnOk
+        result
+        (names.new ≡ with_names names.old (name.now ∷ first.now ∷ second.now ∷ [])) }
     ensures atom { IfOk
         result
         (IsMadeAtom names.new (binary name.now (constant first.now) (constant second.now))) }

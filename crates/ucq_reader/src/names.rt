@@ -46,7 +46,8 @@ pub fn split_prefixed(bytes: &[u8]) -> (&[u8], &[u8])
 /// The Iri that the prefix was last declared with. The lines are searched from the last one back, so names cost as many
 /// steps as there are prefix lines before them.
 pub fn declared(text: &[u8], declarations: &[Declaration], prefix: &[u8]) -> Option<Token>
-    ensures { found_view text.now result ≡ declared (declared_view text.now declarations.now) prefix.now }
+    ensures { found_view text.now result
+        ≡ declared (declared_view text.now declarations.now) prefix.now }
 {
     let mut earlier = declarations;
     while let Some((last, before)) = earlier.split_last() {

@@ -44,8 +44,10 @@ pub fn next_statement(
 ) -> Result<CountedStatement, ReadFault>
     requires spells { Spells text.now tokens.now }
     requires inside { place < length tokens.now }
-    ensures found { IfOk result (λ s. IsEnding text.now (drop place tokens.now) (Complete s.form s.count)) }
-    ensures fault { IfErr result (λ fault. OrMemory (IsNoStatement file number text.now tokens.now place) fault) }
+    ensures found { IfOk result (λ s.
+        IsEnding text.now (drop place tokens.now) (Complete s.form s.count)) }
+    ensures fault { IfErr result (λ fault.
+        OrMemory (IsNoStatement file number text.now tokens.now place) fault) }
 {
     match statement(alloc, text, &tokens[place..])? {
         Ending::Complete(form, count) => Ok(CountedStatement { form, count }),

@@ -29,7 +29,11 @@ pub struct Asked {
 /// Reads the words and the files that they name, or makes their input. Without an input the outcome says why.
 pub fn prepare<H: Shelf>(alloc: Global, words: &[String], shelf: &mut H) -> Result<Asked, Outcome>
     ensures read { IsRead
-        (call_of (map string_bytes words.now) (H.held shelf.old) (H.faults shelf.old) (H.faults shelf.new))
+        (call_of
+        (map string_bytes words.now)
+        (H.held shelf.old)
+        (H.faults shelf.old)
+        (H.faults shelf.new))
         result }
     ensures later { H.faults shelf.old ≤ H.faults shelf.new }
 {

@@ -54,7 +54,11 @@ pub fn run<H: Shelf, K: Sink, E: Sink, G: Gate + Sync, R: Threads + Wait + Sync>
     gate: &G,
 ) -> u8
     ensures { IsFullRun
-        (call_of (map string_bytes words.now) (H.held shelf.old) (H.faults shelf.old) (H.faults shelf.new))
+        (call_of
+        (map string_bytes words.now)
+        (H.held shelf.old)
+        (H.faults shelf.old)
+        (H.faults shelf.new))
         (change_of (K.taken out.old) (K.taken out.new) (K.faults out.old) (K.faults out.new))
         (change_of (E.taken err.old) (E.taken err.new) (E.faults err.old) (E.faults err.new))
         result }
@@ -78,7 +82,11 @@ pub fn run_alone<H: Shelf, K: Sink, E: Sink>(
     err: &mut E,
 ) -> u8
     ensures { IsFullRun
-        (call_of (map string_bytes words.now) (H.held shelf.old) (H.faults shelf.old) (H.faults shelf.new))
+        (call_of
+        (map string_bytes words.now)
+        (H.held shelf.old)
+        (H.faults shelf.old)
+        (H.faults shelf.new))
         (change_of (K.taken out.old) (K.taken out.new) (K.faults out.old) (K.faults out.new))
         (change_of (E.taken err.old) (E.taken err.new) (E.faults err.old) (E.faults err.new))
         result }

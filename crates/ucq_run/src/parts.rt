@@ -48,7 +48,13 @@ fn print_queries<K: Sink, R: Rows>(alloc: Global, names: &Names, rows: &R, out: 
         IsExact problem (live_queries (R.value rows.now).rows) →
         ArePrintable names.now (live_queries (R.value rows.now).rows) →
         PrintsFor
-        (record { form = Queries; names = names.now; problem = problem; facts = facts; budget = budget })
+        (record {
+          form = Queries;
+          names = names.now;
+          problem = problem;
+          facts = facts;
+          budget = budget;
+        })
         (change_of (K.taken out.old) (K.taken out.new) (K.faults out.old) (K.faults out.new))
         result }
     ensures later { K.faults out.old ≤ K.faults out.new }
@@ -71,7 +77,13 @@ fn print_answers<K: Sink, R: Rows>(
         AreChaseAnswers names.now problem facts answers.now.tuples →
         ArePrintableTuples names.now answers.now.tuples →
         PrintsFor
-        (record { form = Answers; names = names.now; problem = problem; facts = facts; budget = budget })
+        (record {
+          form = Answers;
+          names = names.now;
+          problem = problem;
+          facts = facts;
+          budget = budget;
+        })
         (change_of (K.taken out.old) (K.taken out.new) (K.faults out.old) (K.faults out.new))
         result }
     ensures later { K.faults out.old ≤ K.faults out.new }
@@ -95,7 +107,13 @@ fn print_counts<K: Sink, R: Rows>(
         ArePrintable names.now (live_queries (R.value rows.now).rows) →
         AreChaseAnswers names.now problem facts answers.now.tuples →
         PrintsFor
-        (record { form = Counts; names = names.now; problem = problem; facts = facts; budget = budget })
+        (record {
+          form = Counts;
+          names = names.now;
+          problem = problem;
+          facts = facts;
+          budget = budget;
+        })
         (change_of (K.taken out.old) (K.taken out.new) (K.faults out.old) (K.faults out.new))
         result }
     ensures later { K.faults out.old ≤ K.faults out.new }
@@ -125,7 +143,13 @@ fn print_finished<K: Sink, R: Rows>(
         AreChaseAnswers names.now problem facts answers.now.tuples
         × ArePrintableTuples names.now answers.now.tuples) →
         PrintsFor
-        (record { form = form; names = names.now; problem = problem; facts = facts; budget = budget })
+        (record {
+          form = form;
+          names = names.now;
+          problem = problem;
+          facts = facts;
+          budget = budget;
+        })
         (change_of (K.taken out.old) (K.taken out.new) (K.faults out.old) (K.faults out.new))
         result }
     ensures later { K.faults out.old ≤ K.faults out.new }
@@ -144,7 +168,13 @@ fn print_cut<K: Sink>(alloc: Global, names: &Names, store: &Store, out: &mut K) 
     requires held { IsHeldProblem (length names.now) store.now.problem }
     ensures prints { (form : FormValue) (facts : List AtomValue) →
         PrintsFor
-        (record { form = form; names = names.now; problem = store.now.problem; facts = facts; budget = store.now.budget })
+        (record {
+          form = form;
+          names = names.now;
+          problem = store.now.problem;
+          facts = facts;
+          budget = store.now.budget;
+        })
         (change_of (K.taken out.old) (K.taken out.new) (K.faults out.old) (K.faults out.new))
         result }
     ensures later { K.faults out.old ≤ K.faults out.new }

@@ -25,7 +25,8 @@ pub fn read_file<H: Shelf>(
     room: usize,
 ) -> Result<Vec<u8>, Unread>
     requires { room ≤ BYTES }
-    ensures read { IsReading (H.held shelf.old name.now) (H.faults shelf.old) (H.faults shelf.new) room result }
+    ensures read { IsReading (H.held shelf.old name.now) (H.faults shelf.old) (H.faults shelf.new) room
+        result }
     ensures held { (n : List ℕ) → H.held shelf.new n ≡ H.held shelf.old n }
     ensures later { H.faults shelf.old ≤ H.faults shelf.new }
 {

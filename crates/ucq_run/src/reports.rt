@@ -46,7 +46,12 @@ fn too_long_line(alloc: Global, file: u32) -> Result<Vec<u8>, NoMemory>
 fn tell<E: Sink>(err: &mut E, line: &[u8], status: u8) -> u8
     ensures status { result ≡ status }
     ensures line { TookLine
-        (record { taken_before = E.taken err.old; taken_after = E.taken err.new; faults_before = E.faults err.old; faults_after = E.faults err.new })
+        (record {
+          taken_before = E.taken err.old;
+          taken_after = E.taken err.new;
+          faults_before = E.faults err.old;
+          faults_after = E.faults err.new;
+        })
         line.now }
     ensures later { E.faults err.old ≤ E.faults err.new }
 {
@@ -59,8 +64,15 @@ fn tell<E: Sink>(err: &mut E, line: &[u8], status: u8) -> u8
 /// The same with a line that was made, or else that of want of memory.
 fn tell_made<E: Sink>(err: &mut E, line: Result<Vec<u8>, NoMemory>, status: u8) -> u8
     ensures told { IsTold
-        (record { taken_before = E.taken err.old; taken_after = E.taken err.new; faults_before = E.faults err.old; faults_after = E.faults err.new })
-        line status result }
+        (record {
+          taken_before = E.taken err.old;
+          taken_after = E.taken err.new;
+          faults_before = E.faults err.old;
+          faults_after = E.faults err.new;
+        })
+        line
+        status
+        result }
     ensures later { E.faults err.old ≤ E.faults err.new }
 {
     match line {
@@ -72,8 +84,14 @@ fn tell_made<E: Sink>(err: &mut E, line: Result<Vec<u8>, NoMemory>, status: u8) 
 /// Tells the outcome, and answers its status. Where its line takes memory that isn't there, the outcome is want of memory.
 pub fn report<E: Sink>(alloc: Global, err: &mut E, outcome: Outcome) -> u8
     ensures reported { IsReported
-        (record { taken_before = E.taken err.old; taken_after = E.taken err.new; faults_before = E.faults err.old; faults_after = E.faults err.new })
-        outcome result }
+        (record {
+          taken_before = E.taken err.old;
+          taken_after = E.taken err.new;
+          faults_before = E.faults err.old;
+          faults_after = E.faults err.new;
+        })
+        outcome
+        result }
     ensures later { E.faults err.old ≤ E.faults err.new }
 {
     match outcome {

@@ -73,11 +73,9 @@ fn push_body(
 ) -> Result<(), NoMemory>
     requires side { IsSideOf joined.now side }
     requires low { (v : ℕ) → OccursIn body.now (Variable v) → v < bound_on joined.now side }
-    ensures {
-        OnOk
-            result
-            (atoms.new.items ≡ atoms.old.items ++ atoms_named (side_name joined.now side) body.now)
-    }
+    ensures { OnOk
+        result
+        (atoms.new.items ≡ atoms.old.items ++ atoms_named (side_name joined.now side) body.now) }
 {
     for atom in body {
         atoms.push(named_atom(alloc, joined, side, atom)?)?;
@@ -89,10 +87,8 @@ fn push_body(
 fn named_bodies(alloc: Global, joined: &Joined, body: &[Atom]) -> Result<Vec<Atom>, NoMemory>
     requires few { length joined.now.members < 2 ^ 32 }
     requires low { (v : ℕ) → OccursIn body.now (Variable v) → v < joined.now.width }
-    ensures {
-        IfOk result (λ atoms.
-            atoms.items ≡ copies_named joined.now body.now (length joined.now.members))
-    }
+    ensures { IfOk result (λ atoms.
+        atoms.items ≡ copies_named joined.now body.now (length joined.now.members)) }
 {
     let mut atoms = Vec::new(alloc);
     for copy in 0..joined.members().len() as u32 {
@@ -138,19 +134,17 @@ fn push_unmatched(
     pieces: &[Piece],
     joined: &Joined,
 ) -> Result<(), NoMemory>
-    requires within {
-        (member : ℕ) → Contains joined.now.members member → member < length pieces.now
-    }
+    requires within { (member : ℕ) →
+        Contains joined.now.members member →
+        member < length pieces.now }
     requires low { (v : ℕ) → Contains atom.now.terms (Variable v) → v < joined.now.variables }
-    ensures {
-        OnOk
-            result
-            (atoms.new.items ≡
-                 atoms.old.items ++
-                     atoms_named
-                         (side_name joined.now OfQuery)
-                         (left_out_at (pairs_at pieces.now joined.now.members) place atom.now))
-    }
+    ensures { OnOk
+        result
+        (atoms.new.items ≡
+        atoms.old.items ++
+        atoms_named
+        (side_name joined.now OfQuery)
+        (left_out_at (pairs_at pieces.now joined.now.members) place atom.now)) }
 {
     if !is_matched(pieces, joined.members(), place) {
         atoms.push(named_atom(alloc, joined, Side::OfQuery, atom)?)?;
@@ -166,19 +160,17 @@ fn push_rest(
     pieces: &[Piece],
     joined: &Joined,
 ) -> Result<(), NoMemory>
-    requires within {
-        (member : ℕ) → Contains joined.now.members member → member < length pieces.now
-    }
+    requires within { (member : ℕ) →
+        Contains joined.now.members member →
+        member < length pieces.now }
     requires low { (v : ℕ) → OccursIn query.now.atoms (Variable v) → v < joined.now.variables }
-    ensures {
-        OnOk
-            result
-            (atoms.new.items ≡
-                 atoms.old.items ++
-                     atoms_named
-                         (side_name joined.now OfQuery)
-                         (unmatched query.now (pairs_at pieces.now joined.now.members)))
-    }
+    ensures { OnOk
+        result
+        (atoms.new.items ≡
+        atoms.old.items ++
+        atoms_named
+        (side_name joined.now OfQuery)
+        (unmatched query.now (pairs_at pieces.now joined.now.members))) }
 {
     for (place, atom) in query.atoms().iter().enumerate() {
         push_unmatched(alloc, atoms, atom, place as u32, pieces, joined)?;

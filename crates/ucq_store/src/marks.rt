@@ -36,12 +36,10 @@ impl Model for Marks {
 
     ghost view = { λ m. record { items = m.items.items; room = vec_capacity m.items } };
 
-    ghost invariant = {
-        λ m.
-            (length m.items.items ≤ ROWS)
-            × AreSettledBelow m.items.items m.settled
-            × NoneOpenBelow m.items.items m.open_from
-    };
+    ghost invariant = { λ m.
+        (length m.items.items ≤ ROWS)
+        × AreSettledBelow m.items.items m.settled
+        × NoneOpenBelow m.items.items m.open_from };
 }
 
 impl Marks {
@@ -113,12 +111,10 @@ impl Marks {
 
     /// Whether a row is open or claimed.
     pub(crate) fn is_any_in_work(&self) -> bool
-        ensures {
-            IsTrue result
+        ensures { IsTrue result
             ↔ ((row : ℕ)
-               × (row < length self.now.items)
-               × IsInWork (mark_at self.now.items row).state)
-        }
+            × (row < length self.now.items)
+            × IsInWork (mark_at self.now.items row).state) }
     {
         for row in self.settled..self.items.len() {
             if is_in_work(self.items[row].state) {
@@ -131,13 +127,11 @@ impl Marks {
     /// Whether a live row waits.
     pub(crate) fn does_any_wait(&self, antichain: &Antichain) -> bool
         requires { length self.now.items ≡ length antichain.now.rows }
-        ensures {
-            IsTrue result
+        ensures { IsTrue result
             ↔ ((row : ℕ)
-               × (row < length antichain.now.rows)
-               × IsLiveAt antichain.now.rows row
-               × ((mark_at self.now.items row).state ≡ RowState.Waiting))
-        }
+            × (row < length antichain.now.rows)
+            × IsLiveAt antichain.now.rows row
+            × ((mark_at self.now.items row).state ≡ RowState.Waiting)) }
     {
         for row in self.settled..self.items.len() {
             if self.items[row].state == RowState::Waiting && antichain.is_live(row as u32) {

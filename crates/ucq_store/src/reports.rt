@@ -37,9 +37,8 @@ impl<'q> Model for Report<'q> {
 
     ghost Value = { ReportValue };
 
-    ghost view = {
-        λ r. record { problem = r.problem.now; query = r.query; found = r.found; spent = r.spent }
-    };
+    ghost view = { λ r.
+        record { problem = r.problem.now; query = r.query; found = r.found; spent = r.spent } };
 
     ghost invariant = { λ r. r.spent ≡ false → IsFound r.problem.now.rules r.query r.found };
 }
@@ -48,15 +47,13 @@ impl<'q> Report<'q> {
     /// A report on the row of this query. The candidates' cores are cores of one-step rewritings of it, and cover all of these.
     pub fn whole(problem: &'q Problem, query: Query, candidates: Vec<Candidate<'q>>) -> Report<'q>
         requires { AreFound problem.now.rules query candidates.items }
-        ensures {
-            result ≡
-                record {
-                    problem = problem.entry.now;
-                    query = query;
-                    found = Found.Whole candidates.entry.items;
-                    spent = false;
-                }
-        }
+        ensures { result ≡
+            record {
+              problem = problem.entry.now;
+              query = query;
+              found = Found.Whole candidates.entry.items;
+              spent = false;
+            } }
     {
         let candidates = Candidates::of(candidates);
         Report {
@@ -70,15 +67,13 @@ impl<'q> Report<'q> {
     /// A report on the row of this query, which has with this rule a one-step rewriting of `count` atoms, more than `ATOMS`.
     pub fn wide(problem: &'q Problem, query: Query, rule: u32, count: u32) -> Report<'q>
         requires { HasWideStep problem.now.rules query rule count }
-        ensures {
-            result ≡
-                record {
-                    problem = problem.entry.now;
-                    query = query;
-                    found = Found.Wide rule count;
-                    spent = false;
-                }
-        }
+        ensures { result ≡
+            record {
+              problem = problem.entry.now;
+              query = query;
+              found = Found.Wide rule count;
+              spent = false;
+            } }
     {
         Report {
             problem,

@@ -41,33 +41,29 @@ impl<'p> Model for Store<'p> {
 
     ghost Value = { StoreValue };
 
-    ghost view = {
-        λ s.
-            record {
-                problem = s.problem.now;
-                budget = s.antichain.budget;
-                rows = s.antichain.rows;
-                marks = s.marks.items;
-                level = s.level;
-                claims = s.claims;
-                cut = s.cut;
-            }
-    };
+    ghost view = { λ s.
+        record {
+          problem = s.problem.now;
+          budget = s.antichain.budget;
+          rows = s.antichain.rows;
+          marks = s.marks.items;
+          level = s.level;
+          claims = s.claims;
+          cut = s.cut;
+        } };
 
-    ghost invariant = {
-        λ s.
-            IsLawfulByLevels (record {
-                problem = s.problem.now;
-                budget = s.antichain.budget;
-                rows = s.antichain.rows;
-                marks = s.marks.items;
-                level = s.level;
-                claims = s.claims;
-                cut = s.cut;
-            })
-            × (s.antichain.budget ≤ ROWS)
-            × (s.antichain.budget ≤ s.marks.room)
-    };
+    ghost invariant = { λ s.
+        IsLawfulByLevels (record {
+          problem = s.problem.now;
+          budget = s.antichain.budget;
+          rows = s.antichain.rows;
+          marks = s.marks.items;
+          level = s.level;
+          claims = s.claims;
+          cut = s.cut;
+        })
+        × (s.antichain.budget ≤ ROWS)
+        × (s.antichain.budget ≤ s.marks.room) };
 }
 
 impl<'p> Store<'p> {
@@ -144,9 +140,8 @@ impl<'p> Store<'p> {
 
     /// The cut, if the store is cut.
     pub fn cut(&self) -> Option<&Cut>
-        ensures cut {
-            MatchOption result (self.now.cut ≡ None) (λ cut. self.now.cut ≡ Some cut.now)
-        }
+        ensures cut { MatchOption result (self.now.cut ≡ None) (λ cut.
+            self.now.cut ≡ Some cut.now) }
         ensures lawful { IsLawfulByLevels self.now }
     {
         self.cut.as_ref()

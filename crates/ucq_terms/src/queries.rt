@@ -30,7 +30,8 @@ impl Model for Query {
 
     ghost view = { λ q. record { answers = q.answers.items; atoms = q.atoms.items } };
 
-    ghost invariant = { λ q. IsStored (record { answers = q.answers.items; atoms = q.atoms.items }) };
+    ghost invariant = { λ q.
+        IsStored (record { answers = q.answers.items; atoms = q.atoms.items }) };
 }
 
 /// Why answers and atoms make no stored query.

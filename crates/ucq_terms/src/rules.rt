@@ -41,7 +41,8 @@ impl Rule {
         requires few_heads { vec_len heads ≤ 32 }
         requires some_body { 0 < vec_len body }
         requires few_body { vec_len body ≤ 32 }
-        ensures { IfOk result (λ r. r ≡ numbered_rule (record { heads = heads.items; body = body.items })) }
+        ensures { IfOk result (λ r.
+            r ≡ numbered_rule (record { heads = heads.items; body = body.items })) }
     {
         number(alloc, heads.as_mut_slice(), body.as_mut_slice())?;
         Ok(Rule { heads, body })

@@ -37,7 +37,9 @@ pub(crate) fn number_atoms(order: &mut IndexSet<u32>, atoms: &mut [Atom]) -> Res
     requires { length order.old.keys + 16 * length atoms.old < 2 ^ 32 }
     ensures order { OnOk result (order.new.keys ≡ order_with order.old.keys (terms_of atoms.old)) }
     ensures atoms { OnOk result (atoms.new ≡ numbered_atoms order.new.keys atoms.old) }
-    ensures few { OnOk result (length order.new.keys ≤ length order.old.keys + 16 * length atoms.old) }
+    ensures few { OnOk
+        result
+        (length order.new.keys ≤ length order.old.keys + 16 * length atoms.old) }
 {
     for atom in atoms.iter_mut() {
         atom.number(order)?;

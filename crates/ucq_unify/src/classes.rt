@@ -15,20 +15,16 @@ use ucq_terms::{Query, Term};
 
 // Joins the terms of the atom at the place and of the head's atom that the choice has for it.
 fn link_place(classes: &mut Classes, sides: &Sides, place: usize, head: Option<u32>)
-    requires sides {
-        AreNumbered sides.now.query.now sides.now.rule.now sides.now.existential.items
-            classes.old.numbers
-    }
-    requires keeps {
-        (h : ℕ) → head ≡ Some h → KeepsPredicate sides.now.query.now sides.now.rule.now (place, h)
-    }
+    requires sides { AreNumbered sides.now.query.now sides.now.rule.now sides.now.existential.items
+        classes.old.numbers }
+    requires keeps { (h : ℕ) →
+        head ≡ Some h →
+        KeepsPredicate sides.now.query.now sides.now.rule.now (place, h) }
     ensures numbers { classes.new.numbers ≡ classes.old.numbers }
-    ensures linked {
-        (links : List (NodeValue × NodeValue)) →
+    ensures linked { (links : List (NodeValue × NodeValue)) →
         IsClassed links classes.old →
         IsClassed (links ++ place_links sides.now.query.now sides.now.rule.now place head)
-            classes.new
-    }
+        classes.new }
 {
     if let Some(head) = head {
         let atoms = sides.query.atoms();
@@ -39,15 +35,12 @@ fn link_place(classes: &mut Classes, sides: &Sides, place: usize, head: Option<u
 
 /// Makes the classes those of the terms that the choice's pairs join.
 pub fn link_choice(classes: &mut Classes, sides: &Sides, choice: &[Option<u32>])
-    requires sides {
-        AreNumbered sides.now.query.now sides.now.rule.now sides.now.existential.items
-            classes.old.numbers
-    }
+    requires sides { AreNumbered sides.now.query.now sides.now.rule.now sides.now.existential.items
+        classes.old.numbers }
     requires keeps { KeepsEach sides.now.query.now sides.now.rule.now choice.now }
     ensures numbers { classes.new.numbers ≡ classes.old.numbers }
-    ensures linked {
-        IsClassed (links sides.now.query.now 0 sides.now.rule.now (pairs_of choice.now)) classes.new
-    }
+    ensures linked { IsClassed (links sides.now.query.now 0 sides.now.rule.now (pairs_of choice.now))
+        classes.new }
 {
     classes.clear();
     for place in 0..choice.len() {
@@ -58,11 +51,9 @@ pub fn link_choice(classes: &mut Classes, sides: &Sides, choice: &[Option<u32>])
 // Whether the variable of the rule is joined to a constant.
 fn meets_constant(classes: &Classes, variable: u32) -> bool
     requires { variable < width_of classes.now.numbers 0 }
-    ensures {
-        (links : List (NodeValue × NodeValue)) →
+    ensures { (links : List (NodeValue × NodeValue)) →
         IsClassed links classes.now →
-        (IsTrue result ↔ MeetsConstant classes.now.numbers links variable)
-    }
+        (IsTrue result ↔ MeetsConstant classes.now.numbers links variable) }
 {
     let constants = classes.numbering().constants();
     for k in 0..constants.len() {
@@ -77,11 +68,9 @@ fn meets_constant(classes: &Classes, variable: u32) -> bool
 fn meets_answer(classes: &Classes, query: &Query, variable: u32) -> bool
     requires below { variable < width_of classes.now.numbers 0 }
     requires answers { HasLowAnswers query.now classes.now.numbers }
-    ensures {
-        (links : List (NodeValue × NodeValue)) →
+    ensures { (links : List (NodeValue × NodeValue)) →
         IsClassed links classes.now →
-        (IsTrue result ↔ MeetsAnswer query.now links variable)
-    }
+        (IsTrue result ↔ MeetsAnswer query.now links variable) }
 {
     for term in query.answers() {
         if is_joined(classes, variable, *term) {
@@ -95,23 +84,19 @@ fn meets_answer(classes: &Classes, query: &Query, variable: u32) -> bool
 fn is_joined(classes: &Classes, variable: u32, term: Term) -> bool
     requires below { variable < width_of classes.now.numbers 0 }
     requires term { (u : ℕ) → term ≡ Variable u → u < classes.now.numbers.variables }
-    ensures joined {
-        result ≡ true →
+    ensures joined { result ≡ true →
         (u : ℕ)
         × (term ≡ Variable u)
         × ((links : List (NodeValue × NodeValue)) →
-           IsClassed links classes.now →
-           AreJoined links (of_copy 0 variable) (of_query u))
-    }
-    ensures apart {
-        result ≡ false →
+        IsClassed links classes.now →
+        AreJoined links (of_copy 0 variable) (of_query u)) }
+    ensures apart { result ≡ false →
         (u : ℕ) →
         term ≡ Variable u →
         (links : List (NodeValue × NodeValue)) →
         IsClassed links classes.now →
         AreJoined links (of_copy 0 variable) (of_query u) →
-        ⊥
-    }
+        ⊥ }
 {
     match term {
         Term::Constant(_) => false,
@@ -122,11 +107,9 @@ fn is_joined(classes: &Classes, variable: u32, term: Term) -> bool
 // Whether the variable of the rule is joined to another one.
 fn meets_other(classes: &Classes, variable: u32) -> bool
     requires { variable < width_of classes.now.numbers 0 }
-    ensures {
-        (links : List (NodeValue × NodeValue)) →
+    ensures { (links : List (NodeValue × NodeValue)) →
         IsClassed links classes.now →
-        (IsTrue result ↔ MeetsOther classes.now.numbers links variable)
-    }
+        (IsTrue result ↔ MeetsOther classes.now.numbers links variable) }
 {
     for other in 0..classes.numbering().width(0) {
         if other != variable && classes.same(Node::OfCopy(0, variable), Node::OfCopy(0, other)) {
@@ -138,16 +121,12 @@ fn meets_other(classes: &Classes, variable: u32) -> bool
 
 // Whether an existential variable is joined to a constant, an answer variable or another variable of the rule.
 fn has_spoilt(classes: &Classes, sides: &Sides) -> bool
-    requires {
-        AreNumbered sides.now.query.now sides.now.rule.now sides.now.existential.items
-            classes.now.numbers
-    }
-    ensures {
-        (links : List (NodeValue × NodeValue)) →
+    requires { AreNumbered sides.now.query.now sides.now.rule.now sides.now.existential.items
+        classes.now.numbers }
+    ensures { (links : List (NodeValue × NodeValue)) →
         IsClassed links classes.now →
         (IsTrue result
-         ↔ HasSpoilt sides.now.query.now classes.now.numbers sides.now.existential.items links)
-    }
+        ↔ HasSpoilt sides.now.query.now classes.now.numbers sides.now.existential.items links) }
 {
     for variable in 0..classes.numbering().width(0) {
         if sides.existential[variable as usize] && is_spoilt(classes, sides.query, variable) {
@@ -161,11 +140,9 @@ fn has_spoilt(classes: &Classes, sides: &Sides) -> bool
 fn is_spoilt(classes: &Classes, query: &Query, variable: u32) -> bool
     requires below { variable < width_of classes.now.numbers 0 }
     requires answers { HasLowAnswers query.now classes.now.numbers }
-    ensures {
-        (links : List (NodeValue × NodeValue)) →
+    ensures { (links : List (NodeValue × NodeValue)) →
         IsClassed links classes.now →
-        (IsTrue result ↔ IsSpoilt query.now classes.now.numbers links variable)
-    }
+        (IsTrue result ↔ IsSpoilt query.now classes.now.numbers links variable) }
 {
     if meets_constant(classes, variable) {
         return true;
@@ -175,16 +152,12 @@ fn is_spoilt(classes: &Classes, query: &Query, variable: u32) -> bool
 
 // Whether the variable of the query is joined to an existential variable.
 fn is_private(classes: &Classes, sides: &Sides, variable: u32) -> bool
-    requires sides {
-        AreNumbered sides.now.query.now sides.now.rule.now sides.now.existential.items
-            classes.now.numbers
-    }
+    requires sides { AreNumbered sides.now.query.now sides.now.rule.now sides.now.existential.items
+        classes.now.numbers }
     requires below { variable < classes.now.numbers.variables }
-    ensures {
-        (links : List (NodeValue × NodeValue)) →
+    ensures { (links : List (NodeValue × NodeValue)) →
         IsClassed links classes.now →
-        (IsTrue result ↔ IsFlaggedPrivate sides.now.existential.items links variable)
-    }
+        (IsTrue result ↔ IsFlaggedPrivate sides.now.existential.items links variable) }
 {
     for other in 0..classes.numbering().width(0) {
         if sides.existential[other as usize]
@@ -198,16 +171,12 @@ fn is_private(classes: &Classes, sides: &Sides, variable: u32) -> bool
 
 // Whether one of the terms is a variable that is joined to an existential one.
 fn calls_for(classes: &Classes, sides: &Sides, terms: &[Term]) -> bool
-    requires sides {
-        AreNumbered sides.now.query.now sides.now.rule.now sides.now.existential.items
-            classes.now.numbers
-    }
+    requires sides { AreNumbered sides.now.query.now sides.now.rule.now sides.now.existential.items
+        classes.now.numbers }
     requires below { (v : ℕ) → Contains terms.now (Variable v) → v < classes.now.numbers.variables }
-    ensures {
-        (links : List (NodeValue × NodeValue)) →
+    ensures { (links : List (NodeValue × NodeValue)) →
         IsClassed links classes.now →
-        (IsTrue result ↔ CallsFor sides.now.existential.items links terms.now)
-    }
+        (IsTrue result ↔ CallsFor sides.now.existential.items links terms.now) }
 {
     for term in terms {
         if let Term::Variable(variable) = *term {
@@ -221,25 +190,19 @@ fn calls_for(classes: &Classes, sides: &Sides, terms: &[Term]) -> bool
 
 /// The first place without a head whose atom has such a variable.
 pub fn first_called(classes: &Classes, sides: &Sides, choice: &[Option<u32>]) -> Option<u32>
-    requires sides {
-        AreNumbered sides.now.query.now sides.now.rule.now sides.now.existential.items
-            classes.now.numbers
-    }
+    requires sides { AreNumbered sides.now.query.now sides.now.rule.now sides.now.existential.items
+        classes.now.numbers }
     requires length { length choice.now ≡ length sides.now.query.now.atoms }
-    ensures some {
-        (links : List (NodeValue × NodeValue)) →
+    ensures some { (links : List (NodeValue × NodeValue)) →
         IsClassed links classes.now →
         IfSome result (λ place.
-            IsCalledAt sides.now.existential.items links sides.now.query.now choice.now place)
-    }
-    ensures none {
-        (links : List (NodeValue × NodeValue)) →
+        IsCalledAt sides.now.existential.items links sides.now.query.now choice.now place) }
+    ensures none { (links : List (NodeValue × NodeValue)) →
         IsClassed links classes.now →
         result ≡ None →
         (place : ℕ) →
         IsCalledAt sides.now.existential.items links sides.now.query.now choice.now place →
-        ⊥
-    }
+        ⊥ }
 {
     let atoms = sides.query.atoms();
     for place in 0..choice.len() {
@@ -252,24 +215,18 @@ pub fn first_called(classes: &Classes, sides: &Sides, choice: &[Option<u32>]) ->
 
 /// Whether the classes join terms with which there is no piece-unifier.
 pub fn has_clash(classes: &Classes, sides: &Sides) -> bool
-    requires {
-        AreNumbered sides.now.query.now sides.now.rule.now sides.now.existential.items
-            classes.now.numbers
-    }
-    ensures clash {
-        (links : List (NodeValue × NodeValue)) →
+    requires { AreNumbered sides.now.query.now sides.now.rule.now sides.now.existential.items
+        classes.now.numbers }
+    ensures clash { (links : List (NodeValue × NodeValue)) →
         IsClassed links classes.now →
         result ≡ true →
         (HasNoClash links → ⊥)
-        ⊎ HasSpoilt sides.now.query.now classes.now.numbers sides.now.existential.items links
-    }
-    ensures none {
-        (links : List (NodeValue × NodeValue)) →
+        ⊎ HasSpoilt sides.now.query.now classes.now.numbers sides.now.existential.items links }
+    ensures none { (links : List (NodeValue × NodeValue)) →
         IsClassed links classes.now →
         result ≡ false →
         HasNoClash links
-        × (HasSpoilt sides.now.query.now classes.now.numbers sides.now.existential.items links → ⊥)
-    }
+        × (HasSpoilt sides.now.query.now classes.now.numbers sides.now.existential.items links → ⊥) }
 {
     classes.has_clash() || has_spoilt(classes, sides)
 }

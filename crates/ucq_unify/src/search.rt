@@ -25,10 +25,8 @@ enum Step {
 
 // What becomes of the choice, whose least place is the root.
 fn next_step(classes: &mut Classes, sides: &Sides, choice: &[Option<u32>], root: u32) -> Step
-    requires sides {
-        AreNumbered sides.now.query.now sides.now.rule.now sides.now.existential.items
-            classes.old.numbers
-    }
+    requires sides { AreNumbered sides.now.query.now sides.now.rule.now sides.now.existential.items
+        classes.old.numbers }
     requires length { length choice.now ≡ length sides.now.query.now.atoms }
     requires grown { IsGrown sides.now.query.now sides.now.rule.now root choice.now }
     requires some { 0 < length (pairs_of choice.now) }
@@ -116,21 +114,17 @@ fn search(
     root: u32,
     found: &mut Vec<Piece>,
 ) -> Result<(), NoMemory>
-    requires sides {
-        AreNumbered sides.now.query.now sides.now.rule.now sides.now.existential.items
-            classes.old.numbers
-    }
+    requires sides { AreNumbered sides.now.query.now sides.now.rule.now sides.now.existential.items
+        classes.old.numbers }
     requires length { length choice.old ≡ length sides.now.query.now.atoms }
     requires grown { IsGrown sides.now.query.now sides.now.rule.now root choice.old }
     requires some { 0 < length (pairs_of choice.old) }
     ensures numbers { classes.new.numbers ≡ classes.old.numbers }
     ensures choice { OnOk result (choice.new ≡ choice.old) }
-    ensures found {
-        OnOk
-            result
-            (HasFound sides.now.query.now sides.now.rule.now root choice.old found.old.items
-                 found.new.items)
-    }
+    ensures found { OnOk
+        result
+        (HasFound sides.now.query.now sides.now.rule.now root choice.old found.old.items
+        found.new.items) }
 {
     match next_step(classes, sides, choice, root) {
         Step::Blocked => Ok(()),
@@ -149,20 +143,16 @@ fn branch(
     place: u32,
     found: &mut Vec<Piece>,
 ) -> Result<(), NoMemory>
-    requires sides {
-        AreNumbered sides.now.query.now sides.now.rule.now sides.now.existential.items
-            classes.old.numbers
-    }
+    requires sides { AreNumbered sides.now.query.now sides.now.rule.now sides.now.existential.items
+        classes.old.numbers }
     requires length { length choice.old ≡ length sides.now.query.now.atoms }
     requires open { IsOpen sides.now.query.now sides.now.rule.now root choice.old place }
     ensures numbers { classes.new.numbers ≡ classes.old.numbers }
     ensures choice { OnOk result (choice.new ≡ choice.old) }
-    ensures found {
-        OnOk
-            result
-            (HasBranched sides.now.query.now sides.now.rule.now root choice.old place
-                 (length sides.now.rule.now.heads) found.old.items found.new.items)
-    }
+    ensures found { OnOk
+        result
+        (HasBranched sides.now.query.now sides.now.rule.now root choice.old place
+        (length sides.now.rule.now.heads) found.old.items found.new.items) }
 {
     for head in 0..sides.rule.heads().len() as u32 {
         if fits(sides.query, sides.rule, place, head) {
@@ -183,21 +173,17 @@ fn try_head(
     head: u32,
     found: &mut Vec<Piece>,
 ) -> Result<(), NoMemory>
-    requires sides {
-        AreNumbered sides.now.query.now sides.now.rule.now sides.now.existential.items
-            classes.old.numbers
-    }
+    requires sides { AreNumbered sides.now.query.now sides.now.rule.now sides.now.existential.items
+        classes.old.numbers }
     requires length { length choice.old ≡ length sides.now.query.now.atoms }
     requires open { IsOpen sides.now.query.now sides.now.rule.now root choice.old place }
     requires keeps { KeepsPredicate sides.now.query.now sides.now.rule.now (place, head) }
     ensures numbers { classes.new.numbers ≡ classes.old.numbers }
     ensures choice { OnOk result (choice.new ≡ choice.old) }
-    ensures found {
-        OnOk
-            result
-            (HasFound sides.now.query.now sides.now.rule.now root (with_head choice.old place head)
-                 found.old.items found.new.items)
-    }
+    ensures found { OnOk
+        result
+        (HasFound sides.now.query.now sides.now.rule.now root (with_head choice.old place head)
+        found.old.items found.new.items) }
 {
     choice[place as usize] = Some(head);
     search(classes, sides, choice, root, found)?;
@@ -212,10 +198,8 @@ fn search_roots(
     choice: &mut [Option<u32>],
     found: &mut Vec<Piece>,
 ) -> Result<(), NoMemory>
-    requires sides {
-        AreNumbered sides.now.query.now sides.now.rule.now sides.now.existential.items
-            classes.old.numbers
-    }
+    requires sides { AreNumbered sides.now.query.now sides.now.rule.now sides.now.existential.items
+        classes.old.numbers }
     requires length { length choice.old ≡ length sides.now.query.now.atoms }
     requires empty { IsEmptyChoice choice.old }
     requires none { found.old.items ≡ [] }

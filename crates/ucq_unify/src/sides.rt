@@ -18,10 +18,8 @@ pub struct Sides<'s> {
 /// Numbers for the terms of the query and of the rule's head, as copy 0.
 pub fn numbering(alloc: Global, sides: &Sides) -> Result<Numbering, NoMemory>
     requires { AreFlags sides.now.rule.now sides.now.existential.items }
-    ensures {
-        IfOk result (λ n.
-            AreNumbered sides.now.query.now sides.now.rule.now sides.now.existential.items n)
-    }
+    ensures { IfOk result (λ n.
+        AreNumbered sides.now.query.now sides.now.rule.now sides.now.existential.items n) }
 {
     let mut numbering = Numbering::new(alloc, sides.query)?;
     numbering.note_heads(sides.rule)?;

@@ -91,10 +91,8 @@ pub(crate) fn is_given(found: &ArgMatches<'_>, name: &str) -> bool
 
 /// The files, in their order.
 pub(crate) fn files_of<'f, 'a>(found: &'f ArgMatches<'a>) -> Option<&'f [&'a str]>
-    ensures {
-        option_map (λ names. map (λ name. name.now) names.now) result
-            ≡ all_of (codes "file") (rows_of (found_of found.now))
-    }
+    ensures { option_map (λ names. map (λ name. name.now) names.now) result
+        ≡ all_of (codes "file") (rows_of (found_of found.now)) }
 {
     found.get_strs("file")
 }

@@ -23,10 +23,8 @@ pub(crate) fn job_of(
     found: &ArgMatches<'_>,
     answers: bool,
 ) -> Result<Job, WordsFault>
-    ensures {
-        AnswersJob (first_of (codes "make") (rows_of (found_of found.now)))
-            (files_in (rows_of (found_of found.now))) answers result
-    }
+    ensures { AnswersJob (first_of (codes "make") (rows_of (found_of found.now)))
+        (files_in (rows_of (found_of found.now))) answers result }
 {
     let names = files_of(found).unwrap_or(&[]);
     match value_of(found, "make") {
@@ -60,10 +58,8 @@ fn reading(alloc: Global, names: &[&str], answers: bool) -> Result<Job, WordsFau
 
 /// The names as texts of their own.
 fn owned(alloc: Global, names: &[&str]) -> Result<Vec<String>, AllocError>
-    ensures {
-        IfOk result (λ all.
-            map (λ name. string_bytes name) all.items ≡ map (λ name. name.now) names.now)
-    }
+    ensures { IfOk result (λ all.
+        map (λ name. string_bytes name) all.items ≡ map (λ name. name.now) names.now) }
 {
     let mut all = Vec::with_capacity(alloc, names.len())?;
     for name in names {

@@ -8,14 +8,12 @@ const MOST_DIGITS: usize = 9;
 /// The number of an option: the one that its value spells, or the default where the option isn't given.
 pub(crate) fn number_or(value: Option<&str>, least: u32, most: u32, default: u32) -> Option<u32>
     requires { most < 2 ^ 28 }
-    ensures {
-        MatchOption
-            result
-            ((number : ℕ) →
-             IsNumber least most default (option_map (λ v. v.now) value.entry) number →
-             ⊥)
-            (λ number. IsNumber least most default (option_map (λ v. v.now) value.entry) number)
-    }
+    ensures { MatchOption
+        result
+        ((number : ℕ) →
+        IsNumber least most default (option_map (λ v. v.now) value.entry) number →
+        ⊥)
+        (λ number. IsNumber least most default (option_map (λ v. v.now) value.entry) number) }
 {
     match value {
         Some(digits) => number_of(digits.as_bytes(), least, most),
