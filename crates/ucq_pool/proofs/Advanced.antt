@@ -5,7 +5,7 @@ use Rattle.ucq_store.specs.declared.Cut.{Cut}
 use Rattle.ucq_store.specs.Store.{Store, IsCut}
 use Rattle.ucq_store.specs.Changes.{with_claim, with_cut}
 use Rattle.ucq_store.specs.Calls.{HasNoOpen, IsFirstOpen, DoesClaim, DoesRaise}
-use Rattle.ucq_pool.specs.Progress.{work_left, IsAtRest, IsExplored, GoesOn, IsSameTask, DoesAdvance}
+use Rattle.ucq_pool.specs.inner.Progress.{work_left, IsAtRest, IsExplored, GoesOn, IsSameTask, DoesAdvance}
 use Rattle.ucq_pool.proofs.Work.{IsClaimedAlone, claimed_alone, taken_alone, done_at_rest}
 use Rattle.ucq_pool.proofs.Rising.{finished, risen}
 use Rattle.ucq_pool.proofs.Explored.{not_cut}

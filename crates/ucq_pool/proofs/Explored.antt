@@ -8,7 +8,7 @@ use Rattle.ucq_store.specs.declared.Published.TheVariants as published
 use Rattle.ucq_store.specs.Store.{Store, IsCut}
 use Rattle.ucq_store.specs.Reports.{Report}
 use Rattle.ucq_store.specs.Calls.{IsAbout, IsClaimed, IsTaken, IsCutFull, IsCutWide, DoesPublish}
-use Rattle.ucq_pool.specs.Progress.{IsExplored}
+use Rattle.ucq_pool.specs.inner.Progress.{IsExplored}
 
 pub not_cut : (s : Store) → s.cut ≡ None → ¬ IsCut s
 not_cut s none is = let bad : false ≡ true = sym (ap is_some none) ∙ is in cc

@@ -13,7 +13,7 @@ use Rattle.ucq_store.specs.Lawful.{HasWideStep, IsCoreOfOneStep}
 use Rattle.ucq_store.specs.Reports.{AreFound}
 use Rattle.ucq_store.proofs.Holding.{hold_append, hold_push}
 use Rattle.ucq_step.specs.Steps.{IsCoreOfStep, IsCoveredBy, AreSteps, IsTooWide}
-use Rattle.ucq_pool.specs.ByHead.{AreRelevant}
+use Rattle.ucq_pool.specs.inner.ByHead.{AreRelevant}
 use Rattle.ucq_pool.specs.Rewritings.{AreFoundBefore, AreProposed}
 use Rattle.ucq_pool.proofs.Renumbered.{step_from_alone, step_to_alone, step_within}
 

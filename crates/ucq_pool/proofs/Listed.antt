@@ -15,7 +15,7 @@ use Rattle.ucq_terms.specs.Syntax.{Atom, Rule, Query}
 use Rattle.ucq_terms.specs.Unifier.{atom_at}
 use Rattle.ucq_terms.specs.Rewriting.{rule_at}
 use Rattle.ucq_terms.proofs.Lists.{Contains-first, Contains-cons_cases, Contains-empty}
-use Rattle.ucq_pool.specs.ByHead.{list_of, IsListed, AreListedBefore, AreListedBelow, AreRelevant}
+use Rattle.ucq_pool.specs.inner.ByHead.{list_of, IsListed, AreListedBefore, AreListedBelow, AreRelevant}
 
 -- either the one list grew or it stayed as it was
 lists_after : (before after : List ℕ) (name other number : ℕ) → after ≡ (if nat_eq name other then before ++ number ∷ [] else before) →

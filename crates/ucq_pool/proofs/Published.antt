@@ -8,7 +8,7 @@ use Rattle.ucq_store.specs.Store.{Store}
 use Rattle.ucq_store.specs.Reports.{Report}
 use Rattle.ucq_store.specs.Changes.{with_row, Takes}
 use Rattle.ucq_store.specs.Calls.{DoesPublish, IsTaken, IsCutFull, IsCutWide}
-use Rattle.ucq_pool.specs.Progress.{IsSameTask}
+use Rattle.ucq_pool.specs.inner.Progress.{IsSameTask}
 
 same_task : (s after : Store) → after ≡ s → IsSameTask s after
 same_task s after is = record { problem = ap (λ (t : Store). t.problem) is; budget = ap (λ (t : Store). t.budget) is }

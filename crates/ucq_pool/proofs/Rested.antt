@@ -10,7 +10,7 @@ use Rattle.ucq_store.specs.Store.{Store, state_of}
 use Rattle.ucq_store.specs.Lawful.{IsLawful}
 use Rattle.ucq_store.specs.Changes.{reopened}
 use Rattle.ucq_store.specs.Calls.{DoesReopen}
-use Rattle.ucq_pool.specs.Progress.{work_of, work_of_marks, IsAtRest}
+use Rattle.ucq_pool.specs.inner.Progress.{work_of, work_of_marks, IsAtRest}
 
 little_work : (state : RowState) → work_of state ≤ 2
 little_work Waiting = omega arith

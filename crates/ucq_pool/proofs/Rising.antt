@@ -8,7 +8,7 @@ use Rattle.ucq_store.specs.Store.{Store, mark_at, IsRow, state_of, IsInWork, IsF
 use Rattle.ucq_store.specs.Changes.{raised}
 use Rattle.ucq_store.specs.Calls.{HasNoOpen, DoesRaise}
 use Rattle.ucq_store.proofs.Live.{live_is_row}
-use Rattle.ucq_pool.specs.Progress.{work_of, work_of_marks, work_left, IsAtRest, GoesOn}
+use Rattle.ucq_pool.specs.inner.Progress.{work_of, work_of_marks, work_left, IsAtRest, GoesOn}
 use Rattle.ucq_pool.proofs.Sums.{sum_less}
 use Rattle.ucq_pool.proofs.Work.{mark_work, no_mark}
 

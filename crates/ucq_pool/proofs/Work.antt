@@ -12,7 +12,7 @@ use Rattle.ucq_store.specs.declared.RowState.TheVariants.{Waiting, Claimed, Done
 use Rattle.ucq_store.specs.Store.{Store, mark_at, IsRow, state_of, depth_of}
 use Rattle.ucq_store.specs.Changes.{with_row, with_state, with_claim, Adds, Takes}
 use Rattle.ucq_store.specs.Calls.{IsFirstOpen}
-use Rattle.ucq_pool.specs.Progress.{work_of, work_of_marks, work_left, IsAtRest, GoesOn, IsSameTask}
+use Rattle.ucq_pool.specs.inner.Progress.{work_of, work_of_marks, work_left, IsAtRest, GoesOn, IsSameTask}
 
 abbrev pub mark_work : Mark → ℕ
 mark_work m = work_of m.state

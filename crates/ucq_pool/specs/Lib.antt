@@ -1,4 +1,2 @@
 pub mod Rewritings
-pub mod Progress
-pub mod Shared
-pub mod ByHead
+pub mod inner

@@ -1,18 +1,18 @@
 //! Rounds of workers, one for each level.
-ghost use Rattle.std.specs.Prelude.{◌≡◌, ◌+◌, ◌<◌, ◌≤◌, ◌⊎◌, All, IfOk, length, vec_len};
+ghost use Rattle.std.specs.Prelude.{◌≡◌, ◌+◌, ◌<◌, ◌≤◌, ◌⊎◌, IfOk, length, vec_len};
 ghost use Rattle.ucq_terms.specs.declared.TheConstants.{ROWS};
 ghost use Rattle.ucq_board.specs.Values.{IsSeatOf};
 ghost use Rattle.ucq_hom.specs.Space.{IsClear};
 ghost use Rattle.ucq_store.specs.Store.{IsCut, IsFinished};
 ghost use Rattle.ucq_store.specs.Laws.{IsEnough};
-ghost use Rattle.ucq_pool.specs.Shared.{IsAtWork, IsStage};
+ghost use Rattle.ucq_pool.specs.inner.Shared.{IsAtWork, IsStage};
 
 use crate::indexed::IndexedProblem;
 use crate::solo::{alone, go_on};
 use crate::task::{Task, TaskStore};
 use crate::worker::{Round, Worker};
-use std::alloc::Global;
-use std::marker::Brand;
+use std::alloc::{AllocError, Global};
+use std::marker::{Brand, PhantomData};
 use std::sync::{Mutex, Wait};
 use std::thread;
 use std::thread::Threads;
@@ -34,11 +34,13 @@ pub struct Note {
     pub seen: u64,
 }
 
-/// A worker at its seat.
+/// A worker at a seat of the task's board, which its type says: a closure that says it by clauses takes minutes to prove.
 #[derive(Drop)]
-struct Job<'l> {
+struct Job<'l, T: Task> {
     worker: Worker<'l>,
     seat: Seat,
+    task: PhantomData<T>,
+    ghost at_work: { IsAtWork T.board seat },
 }
 
 /// The workers, and how many rows they drew from boards.
@@ -107,19 +109,85 @@ pub fn rounds_noted<'p, R: Threads + Wait + Sync, G: Gate + Sync>(
     ensures problem { IfOk result (λ r. (r.0.problem ≡ problem.entry.now) × (r.0.budget ≡ budget)) }
     ensures enough { IfOk result (λ r. IsEnough problem.entry.now budget → IsFinished r.0) }
 {
-    enough_budget();
     let mut space = HomSpace::new(alloc)?;
-    let mut store = Store::new(alloc, &mut space, problem, budget)?;
+    rounds_in(rt, alloc, &mut space, problem, budget, workers, gate)
+}
+
+/// The same with room for searches.
+fn rounds_in<'p, R: Threads + Wait + Sync, G: Gate + Sync>(
+    rt: &R,
+    alloc: Global,
+    space: &mut HomSpace,
+    problem: &'p Problem,
+    budget: u32,
+    workers: u32,
+    gate: &G,
+) -> Result<(Store<'p>, Note), NoMemory>
+    requires some { 0 < budget }
+    requires small { budget ≤ ROWS }
+    requires clear { IsClear space.old }
+    ensures done { IfOk result (λ r. IsFinished r.0 ⊎ IsCut r.0) }
+    ensures problem { IfOk result (λ r. (r.0.problem ≡ problem.entry.now) × (r.0.budget ≡ budget)) }
+    ensures enough { IfOk result (λ r. IsEnough problem.entry.now budget → IsFinished r.0) }
+{
+    let store = Store::new(alloc, space, problem, budget)?;
     let indexed = IndexedProblem::new(alloc, problem)?;
+    explore_with(rt, alloc, space, &indexed, store, workers, gate)
+}
+
+/// Hires so many workers, and lets them explore to the end.
+fn explore_with<'p, R: Threads + Wait + Sync, G: Gate + Sync>(
+    rt: &R,
+    alloc: Global,
+    space: &mut HomSpace,
+    problem: &IndexedProblem<'p>,
+    store: Store<'p>,
+    workers: u32,
+    gate: &G,
+) -> Result<(Store<'p>, Note), NoMemory>
+    requires problem { store.problem ≡ problem.now }
+    requires some { 0 < store.budget }
+    requires small { store.budget ≤ ROWS }
+    requires clear { IsClear space.old }
+    ensures done { IfOk result (λ r. IsFinished r.0 ⊎ IsCut r.0) }
+    ensures problem { IfOk result (λ r.
+        (r.0.problem ≡ problem.now) × (r.0.budget ≡ store.entry.budget)) }
+    ensures enough { IfOk result (λ r. IsEnough problem.now store.entry.budget → IsFinished r.0) }
+{
     let log = Log::new(alloc)?;
     let mut crew = hire(alloc, workers, &log)?;
+    let store = explore_levels(rt, alloc, space, problem, store, &mut crew, gate)?;
+    Ok((store, note_of(&crew)))
+}
+
+/// Lets the crew explore level by level, until no row is left to explore or the store is cut.
+fn explore_levels<'p, 'l, R: Threads + Wait + Sync, G: Gate + Sync>(
+    rt: &R,
+    alloc: Global,
+    space: &mut HomSpace,
+    problem: &IndexedProblem<'p>,
+    store: Store<'p>,
+    crew: &mut Crew<'l>,
+    gate: &G,
+) -> Result<Store<'p>, NoMemory>
+    requires problem { store.problem ≡ problem.now }
+    requires some { 0 < store.budget }
+    requires small { store.budget ≤ ROWS }
+    requires clear { IsClear space.old }
+    ensures done { IfOk result (λ s. IsFinished s ⊎ IsCut s) }
+    ensures problem { IfOk result (λ s.
+        (s.problem ≡ problem.now) × (s.budget ≡ store.entry.budget)) }
+    ensures enough { IfOk result (λ s. IsEnough problem.now store.entry.budget → IsFinished s) }
+{
+    enough_budget();
+    let mut store = store;
     for _ in rt.forever() {
-        match explore_level(rt, alloc, &mut space, &indexed, store, &mut crew, gate)? {
+        match explore_level(rt, alloc, space, problem, store, crew, gate)? {
             Stage::Going(going) => store = going,
             Stage::Ended(ended) => {
                 // A reader tells that the store is lawful.
                 let _ = ended.rows();
-                return Ok((ended, note_of(&crew)));
+                return Ok(ended);
             }
         }
     }
@@ -145,7 +213,7 @@ fn explore_level<'p, 'l, R: Threads + Wait + Sync, G: Gate + Sync>(
 {
     let mut store = store;
     let claims = claim_open(alloc, &mut store)?;
-    let rested = round::<Brand, _, _>(rt, alloc, problem, store, claims.as_slice(), crew, gate)?;
+    let rested = round(rt, alloc, problem, store, claims.as_slice(), crew, gate)?;
     after_round(alloc, space, problem, rested)
 }
 
@@ -176,7 +244,8 @@ fn note_of(crew: &Crew) -> Note {
 fn claim_open(alloc: Global, store: &mut Store) -> Result<Vec<Claim>, NoMemory>
     requires { store.old.budget ≤ ROWS }
     ensures few { IfOk result (λ claims. vec_len claims ≤ ROWS) }
-    ensures task { IfOk result (λ _. (store.new.problem ≡ store.old.problem) × (store.new.budget ≡ store.old.budget)) }
+    ensures task { IfOk result (λ _.
+        (store.new.problem ≡ store.old.problem) × (store.new.budget ≡ store.old.budget)) }
 {
     let mut claims = Vec::new(alloc);
     for _ in 0..store.rows() {
@@ -190,7 +259,7 @@ fn claim_open(alloc: Global, store: &mut Store) -> Result<Vec<Claim>, NoMemory>
 
 /// Lets workers explore the claimed rows of the store, each worker in a thread of its own where one can be made, and no more
 /// of them than there are claims.
-fn round<'p, 'l, T: Task + Send + Sync, R: Threads + Wait + Sync, G: Gate + Sync>(
+fn round<'p, 'l, R: Threads + Wait + Sync, G: Gate + Sync>(
     rt: &R,
     alloc: Global,
     problem: &IndexedProblem<'p>,
@@ -199,19 +268,43 @@ fn round<'p, 'l, T: Task + Send + Sync, R: Threads + Wait + Sync, G: Gate + Sync
     crew: &mut Crew<'l>,
     gate: &G,
 ) -> Result<Rested<'p>, NoMemory>
-    requires of_task { problem.now ≡ T.problem }
-    requires problem { store.problem ≡ T.problem }
-    requires budget { store.budget ≡ T.budget }
+    requires problem { store.problem ≡ problem.now }
     requires claims { length claims.now ≤ ROWS }
-    ensures problem { IfOk result (λ r. r.store.problem ≡ T.problem) }
-    ensures budget { IfOk result (λ r. r.store.budget ≡ T.budget) }
+    ensures problem { IfOk result (λ r. r.store.problem ≡ problem.now) }
+    ensures budget { IfOk result (λ r. r.store.budget ≡ store.entry.budget) }
 {
     let team = crew.workers.len().min(claims.len()).min(64);
-    let (board, mut first) = match Board::new(alloc, claims.len() as u32, team as u32 + 1) {
+    let (board, first) = match Board::new(alloc, claims.len() as u32, team as u32 + 1) {
         Ok(made) => made,
         Err(ucq_board::NoMemory) => return Err(NoMemory),
     };
-    let jobs = seat_team(alloc, &board, &mut first, &mut crew.workers, team)?;
+    round_at::<Brand, _, _>(rt, alloc, problem, store, claims, crew, gate, board, first)
+}
+
+/// The same at a board with a row for each claim, whose first seat has one to spare for each worker.
+fn round_at<'p, 'l, T: Task + Send + Sync, R: Threads + Wait + Sync, G: Gate + Sync>(
+    rt: &R,
+    alloc: Global,
+    problem: &IndexedProblem<'p>,
+    store: Store<'p>,
+    claims: &[Claim],
+    crew: &mut Crew<'l>,
+    gate: &G,
+    board: Board,
+    first: Seat,
+) -> Result<Rested<'p>, NoMemory>
+    requires of_task { problem.now ≡ T.problem }
+    requires problem { store.problem ≡ T.problem }
+    requires budget { store.budget ≡ T.budget }
+    requires board { board ≡ T.board }
+    requires rows { board.rows ≡ length claims.now }
+    requires seat { IsSeatOf board first }
+    requires spare { first.view.spare + 1 ≡ board.seats }
+    ensures problem { IfOk result (λ r. r.store.problem ≡ T.problem) }
+    ensures budget { IfOk result (λ r. r.store.budget ≡ T.budget) }
+{
+    let mut first = first;
+    let jobs = seat_team::<T>(alloc, &board, &mut first, &mut crew.workers)?;
     let lock: Mutex<TaskStore<'p, T>> = Mutex::new(TaskStore::new(store));
     let round = Round {
         problem,
@@ -220,15 +313,7 @@ fn round<'p, 'l, T: Task + Send + Sync, R: Threads + Wait + Sync, G: Gate + Sync
         board: &board,
         gate,
     };
-    let shared = &round;
-    let ended = thread::map_vec(
-        rt,
-        jobs,
-        &|job: Job| -> Job
-            requires { IsAtWork shared.now.board.now job.seat }
-            ensures { IsAtWork shared.entry.now.board.now result.seat }
-        { work_at(rt, alloc, shared, job) },
-    );
+    let ended = work_all(rt, alloc, &round, jobs);
     let store = lock.into_inner().into_store();
     let Ok(jobs) = ended else {
         return Ok(Rested {
@@ -242,64 +327,80 @@ fn round<'p, 'l, T: Task + Send + Sync, R: Threads + Wait + Sync, G: Gate + Sync
     Ok(Rested { store, is_wanting })
 }
 
+/// Lets each worker explore what its seat draws, in a thread of its own where one can be made.
+fn work_all<'r, 'p, 'l, T: Task + Send + Sync, R: Threads + Wait + Sync, G: Gate + Sync>(
+    rt: &R,
+    alloc: Global,
+    round: &Round<'r, 'p, T, G>,
+    jobs: Vec<Job<'l, T>>,
+) -> Result<Vec<Job<'l, T>>, AllocError>
+    ensures { IfOk result (λ ended. vec_len ended ≡ vec_len jobs.entry) }
+{
+    thread::map_vec(rt, jobs, &|job: Job<T>| work_at(rt, alloc, round, job))
+}
+
 /// Lets a worker explore what its seat draws.
 fn work_at<'r, 'p, 'l, R: Wait, T: Task, G: Gate>(
     rt: &R,
     alloc: Global,
     round: &Round<'r, 'p, T, G>,
-    job: Job<'l>,
-) -> Job<'l>
-    requires { IsAtWork round.now.board.now job.seat }
-    ensures { IsAtWork round.now.board.now result.seat }
-{
+    job: Job<'l, T>,
+) -> Job<'l, T> {
     let Job {
         mut worker,
         mut seat,
+        task,
     } = job;
     worker.work(rt, alloc, round, &mut seat);
-    Job { worker, seat }
+    Job { worker, seat, task }
 }
 
-/// Seats so many of the workers at the board, or all where there are fewer.
-fn seat_team<'l>(
+/// Seats as many of the workers at the task's board as its first seat has to spare, or all where there are fewer.
+fn seat_team<'l, T: Task>(
     alloc: Global,
     board: &Board,
     first: &mut Seat,
     workers: &mut Vec<Worker<'l>>,
-    team: usize,
-) -> Result<Vec<Job<'l>>, NoMemory>
+) -> Result<Vec<Job<'l, T>>, NoMemory>
+    requires task { board.now ≡ T.board }
     requires board { IsSeatOf board.now first.old }
-    requires spare { team ≤ first.old.view.spare }
-    ensures jobs { IfOk result (λ jobs. All (λ job. IsAtWork board.now job.seat) jobs.items) }
-    ensures count { IfOk result (λ jobs. first.new.view.spare + vec_len jobs ≡ first.old.view.spare) }
+    ensures count { IfOk result (λ jobs.
+        first.new.view.spare + vec_len jobs ≡ first.old.view.spare) }
     ensures first { IsSeatOf board.now first.new }
 {
-    let mut jobs = Vec::with_capacity(alloc, team)?;
+    let team = first.spare();
+    let mut jobs = Vec::with_capacity(alloc, team as usize)?;
     for _ in 0..team {
         let Some(worker) = workers.pop() else {
             break;
         };
         let seat = board.split(first);
-        jobs.push(Job { worker, seat })?;
+        let job = Job {
+            worker,
+            seat,
+            task: PhantomData,
+        };
+        jobs.push(job)?;
     }
     Ok(jobs)
 }
 
 /// Joins the seats into the first, and gives the workers back. Answers whether one of them wanted memory.
-fn rise_all<'l>(
+fn rise_all<'l, T: Task>(
     board: &Board,
     first: &mut Seat,
     workers: &mut Vec<Worker<'l>>,
-    jobs: Vec<Job<'l>>,
+    jobs: Vec<Job<'l, T>>,
 ) -> Result<bool, NoMemory>
+    requires task { board.now ≡ T.board }
     requires board { IsSeatOf board.now first.old }
-    requires jobs { All (λ job. IsAtWork board.now job.seat) jobs.items }
-    ensures count { IfOk result (λ _. first.new.view.spare ≡ first.old.view.spare + vec_len jobs.entry) }
+    ensures count { IfOk result (λ _.
+        first.new.view.spare ≡ first.old.view.spare + vec_len jobs.entry) }
     ensures first { IsSeatOf board.now first.new }
 {
     let mut is_wanting = false;
     for job in jobs {
-        let Job { worker, seat } = job;
+        let Job { worker, seat, .. } = job;
         is_wanting = is_wanting || worker.wants_memory();
         board.join(first, seat);
         workers.push(worker)?;

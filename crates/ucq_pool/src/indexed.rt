@@ -1,7 +1,7 @@
 //! A problem whose rules are found by the names in their heads.
 ghost use Rattle.std.specs.Prelude.{◌≤◌, ◌<◌, ◌≡◌, OnOk, IfOk, length};
 ghost use Rattle.ucq_terms.specs.declared.TheConstants.{RULES};
-ghost use Rattle.ucq_pool.specs.ByHead.{list_of, IsListed, AreListedBelow, AreListedBefore, AreRelevant};
+ghost use Rattle.ucq_pool.specs.inner.ByHead.{list_of, IsListed, AreListedBelow, AreListedBefore, AreRelevant};
 
 use indexmap::IndexMap;
 use std::alloc::Global;
@@ -18,13 +18,14 @@ pub(crate) struct IndexedProblem<'p> {
 impl<'p> Model for IndexedProblem<'p> {
     ghost use Rattle.std.specs.Prelude.{length};
     ghost use Rattle.ucq_terms.specs.Syntax.{Problem as ProblemValue};
-    ghost use Rattle.ucq_pool.specs.ByHead.{AreListedBelow};
+    ghost use Rattle.ucq_pool.specs.inner.ByHead.{AreListedBelow};
 
     ghost Value = { ProblemValue };
 
     ghost view = { λ p. p.problem.now };
 
-    ghost invariant = { λ p. AreListedBelow p.problem.now.rules (length p.problem.now.rules) p.lists };
+    ghost invariant = { λ p.
+        AreListedBelow p.problem.now.rules (length p.problem.now.rules) p.lists };
 }
 
 impl<'p> IndexedProblem<'p> {
@@ -96,7 +97,9 @@ fn list(lists: &mut IndexMap<u32, Vec<u32>>, name: u32, number: u32) -> Result<(
 
 // Puts the number of the rule into the list of each name in its head.
 fn list_heads(lists: &mut IndexMap<u32, Vec<u32>>, rule: &Rule, number: u32) -> Result<(), NoMemory>
-    ensures { OnOk result (AreListedBefore rule.now.heads (length rule.now.heads) number lists.old lists.new) }
+    ensures { OnOk
+        result
+        (AreListedBefore rule.now.heads (length rule.now.heads) number lists.old lists.new) }
 {
     let heads = rule.heads();
     for place in 0..heads.len() {

@@ -1,6 +1,5 @@
 //! What a worker knows of the log.
 ghost use Rattle.std.specs.Prelude.{◌≡◌, IfSome};
-ghost use Rattle.ucq_terms.specs.declared.TheConstants.{ROWS};
 ghost use Rattle.ucq_hom.specs.Space.{IsClear};
 ghost use Rattle.ucq_log.specs.Log.{IsEntryOf};
 ghost use Rattle.ucq_store.specs.Candidates.{HoldsCore};
@@ -13,10 +12,7 @@ use std::sync::Wait;
 use ucq_hom::HomSpace;
 use ucq_log::{Entry, Log, Seen};
 use ucq_store::{Candidate, Report};
-use ucq_terms::{NoMemory, Query};
-
-/// The most entries that a worker keeps.
-const ENTRIES: usize = 65_536;
+use ucq_terms::{NoMemory, Query, ROWS};
 
 /// A log, and the entries that one worker added to it.
 #[derive(Drop)]
@@ -35,7 +31,8 @@ impl<'l> Model for Own<'l> {
 
     ghost view = { λ o. o.entries.items };
 
-    ghost invariant = { λ o. All (λ e. IsEntryOf o.log.now e) o.entries.items × (length o.entries.items ≤ ROWS) };
+    ghost invariant = { λ o.
+        All (λ e. IsEntryOf o.log.now e) o.entries.items × (length o.entries.items ≤ ROWS) };
 }
 
 impl<'l> Own<'l> {
@@ -58,7 +55,7 @@ impl<'l> Own<'l> {
 
     /// Adds a row and its query to the log and keeps the entry, where there is memory for it and few enough are kept.
     fn add<R: Wait>(&mut self, rt: &R, row: u32, query: Query) {
-        if self.entries.len() >= ENTRIES || self.entries.reserve(1).is_err() {
+        if self.entries.len() >= ROWS as usize || self.entries.reserve(1).is_err() {
             return;
         }
         if let Ok(entry) = self.log.add(rt, row, query) {

@@ -136,7 +136,8 @@ fn rewrite_with<'q, P: Propose<'q>>(
     requires place { place < length numbers.now }
     requires rule { slice_index numbers.now place < length rules.now }
     requires before { AreFoundBefore rules.now numbers.now place query.now candidates.old.items }
-    ensures found { DoesRewriteWith rules.now numbers.now place query.now result candidates.new.items }
+    ensures found { DoesRewriteWith rules.now numbers.now place query.now result
+        candidates.new.items }
     ensures clear { IsClear space.new }
 {
     let rule = numbers[place];
@@ -156,7 +157,8 @@ fn propose_all<'q, P: Propose<'q>>(
     candidates: &mut Vec<Candidate<'q>>,
 ) -> Result<(), NoMemory>
     requires clear { IsClear space.old }
-    ensures proposed { IfOk result (λ _. AreProposed candidates.old.items cores.items candidates.new.items) }
+    ensures proposed { IfOk result (λ _.
+        AreProposed candidates.old.items cores.items candidates.new.items) }
     ensures clear { IsClear space.new }
 {
     candidates.reserve(cores.len())?;

@@ -5,7 +5,7 @@ ghost use Rattle.ucq_hom.specs.Space.{IsClear};
 ghost use Rattle.ucq_store.specs.Store.{IsRow, IsCut, IsFinished};
 ghost use Rattle.ucq_store.specs.Calls.{IsClaimed};
 ghost use Rattle.ucq_store.specs.Laws.{IsEnough};
-ghost use Rattle.ucq_pool.specs.Progress.{IsAtRest, IsExplored, DoesAdvance, IsSameTask};
+ghost use Rattle.ucq_pool.specs.inner.Progress.{IsAtRest, IsExplored, DoesAdvance, IsSameTask};
 
 use crate::indexed::IndexedProblem;
 use crate::rewritings::{Plainly, report_on};

@@ -7,14 +7,17 @@ use std::marker::{Brand, PhantomData};
 use ucq_hom::HomSpace;
 use ucq_store::{Claim, Published, Report, Store};
 
-/// What a round works on.
+/// What a round works on, and the board that hands out its rows.
 pub(crate) trait Task {
     ghost use Rattle.std.specs.Prelude.{ℕ};
     ghost use Rattle.ucq_terms.specs.Syntax.{Problem};
+    ghost use Rattle.ucq_board.specs.Values.{BoardValue};
 
     ghost problem: { Problem };
 
     ghost budget: { ℕ };
+
+    ghost board: { BoardValue };
 }
 
 impl Task for Brand {
@@ -23,6 +26,20 @@ impl Task for Brand {
     ghost problem = { record { rules = []; query = record { answers = []; atoms = [] } } };
 
     ghost budget = { 0 };
+
+    ghost board = { record {
+      table = record {
+        words = 0;
+        slots = 0;
+        views_name = 0;
+        atom = 0;
+        block = 0;
+        offset = 0;
+        slot_names = [];
+      };
+      rows = 0;
+      seats = 0;
+    } };
 }
 
 /// A store of the task's problem and budget. So a lock round it holds none of another task, and a worker's report needs no
@@ -78,7 +95,8 @@ impl<'p, T: Task> TaskStore<'p, T> {
     ) -> Published
         requires unspent { report.old.spent ≡ false }
         requires problem { report.old.problem ≡ T.problem }
-        ensures does { DoesPublish self.old.store claim report.old result self.new.store report.new }
+        ensures does { DoesPublish self.old.store claim report.old result self.new.store
+            report.new }
         ensures clear { IsClear space.new }
     {
         self.store.publish_own(space, claim, report)

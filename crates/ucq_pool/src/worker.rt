@@ -1,7 +1,7 @@
 //! A worker in a round.
 ghost use Rattle.std.specs.Prelude.{◌≡◌, length};
 ghost use Rattle.ucq_hom.specs.Space.{IsClear};
-ghost use Rattle.ucq_pool.specs.Shared.{IsAtWork};
+ghost use Rattle.ucq_pool.specs.inner.Shared.{IsAtWork};
 
 use crate::indexed::IndexedProblem;
 use crate::own::Own;
@@ -17,7 +17,7 @@ use ucq_store::{Claim, Published};
 use ucq_terms::NoMemory;
 
 /// What the workers of a round share: the task's problem, its store behind a lock, the claims of the rows that were open, and
-/// a board with a row for each of these claims.
+/// the task's board, which has a row for each of these claims.
 #[derive(Drop)]
 pub(crate) struct Round<'r, 'p, T: Task, G> {
     pub problem: &'r IndexedProblem<'p>,
@@ -26,6 +26,7 @@ pub(crate) struct Round<'r, 'p, T: Task, G> {
     pub board: &'r Board,
     pub gate: &'r G,
     ghost of_task: { problem.now ≡ T.problem },
+    ghost at_board: { board.now ≡ T.board },
     ghost rows: { board.now.rows ≡ length claims.now },
 }
 

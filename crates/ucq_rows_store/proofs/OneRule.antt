@@ -7,7 +7,7 @@ use Rattle.ucq_store.specs.Candidates.{Candidate}
 use Rattle.ucq_store.specs.Lawful.{IsCoreOfOneStep}
 use Rattle.ucq_store.specs.Reports.{AreFound}
 use Rattle.ucq_step.specs.Steps.{AreSteps}
-use Rattle.ucq_pool.specs.ByHead.{AreRelevant}
+use Rattle.ucq_pool.specs.inner.ByHead.{AreRelevant}
 use Rattle.ucq_pool.specs.Rewritings.{AreFoundBefore, AreProposed}
 use Rattle.ucq_pool.proofs.Found.{found_more, found_all}
 

@@ -1,7 +1,7 @@
 use Rattle.std.proofs.Common.{◌≡◌, ℕ, subst, sym, ap, ◌∙◌}
 use Rattle.ucq_terms.specs.Syntax.{Atom}
 use Rattle.ucq_terms.specs.Unifier.{atom_at}
-use Rattle.ucq_pool.specs.ByHead.{IsListed}
+use Rattle.ucq_pool.specs.inner.ByHead.{IsListed}
 use Rattle.ucq_pool.proofs.Listed.{one_before, atom_read}
 use Rattle.ucq_pool.proofs.indexed.list_heads.Goals as goal
 

@@ -1,4 +1,4 @@
-use Rattle.ucq_pool.specs.ByHead.{AreListedBefore}
+use Rattle.ucq_pool.specs.inner.ByHead.{AreListedBefore}
 use Rattle.ucq_pool.proofs.indexed.list_heads.Given as goal
 
 abbrev pub invariant-loop-place : goal.invariant-loop-place

@@ -1,6 +1,6 @@
 use Rattle.std.proofs.Common.{subst, sym, length}
 use Rattle.ucq_terms.specs.Syntax.{Rule}
-use Rattle.ucq_pool.specs.ByHead.{AreListedBefore}
+use Rattle.ucq_pool.specs.inner.ByHead.{AreListedBefore}
 use Rattle.ucq_pool.proofs.Listed.{one_below, rule_read}
 use Rattle.ucq_pool.proofs.indexed.listed_heads.Goals as goal
 

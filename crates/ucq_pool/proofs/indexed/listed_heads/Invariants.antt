@@ -1,4 +1,4 @@
-use Rattle.ucq_pool.specs.ByHead.{AreListedBelow}
+use Rattle.ucq_pool.specs.inner.ByHead.{AreListedBelow}
 use Rattle.ucq_pool.proofs.indexed.listed_heads.Given as goal
 
 abbrev pub invariant-loop-number : goal.invariant-loop-number

@@ -1,6 +1,6 @@
 use Rattle.std.proofs.Common.{◌≡◌}
 use Rattle.ucq_hom.specs.Space.{IsClear}
-use Rattle.ucq_pool.specs.Progress.{IsAtRest, IsSameTask, work_left}
+use Rattle.ucq_pool.specs.inner.Progress.{IsAtRest, IsSameTask, work_left}
 use Rattle.ucq_pool.proofs.solo.go_on.Given as goal
 
 abbrev pub invariant-loop-store : goal.invariant-loop-store

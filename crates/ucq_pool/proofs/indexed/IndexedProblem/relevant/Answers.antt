@@ -2,7 +2,7 @@ use Rattle.std.proofs.Common.{◌≡◌, ◌≤◌, ℕ, List, length, subst, sy
 use Rattle.std.proofs.lemmas.List.Filters.{dedup_is}
 use Rattle.ucq_terms.specs.Syntax.{Atom, Problem}
 use Rattle.ucq_terms.specs.Unifier.{atom_at}
-use Rattle.ucq_pool.specs.ByHead.{list_of, AreRelevant}
+use Rattle.ucq_pool.specs.inner.ByHead.{list_of, AreRelevant}
 use Rattle.ucq_pool.proofs.Listed.{are_relevant, found_one, within_one, atom_read}
 use Rattle.ucq_pool.proofs.indexed.IndexedProblem.relevant.Goals as goal
 

@@ -1,5 +1,5 @@
 use Rattle.ucq_hom.specs.Space.{IsClear}
-use Rattle.ucq_pool.specs.Shared.{IsAtWork}
+use Rattle.ucq_pool.specs.inner.Shared.{IsAtWork}
 use Rattle.ucq_pool.proofs.worker.Worker.work.Given as goal
 
 abbrev pub invariant-loop : goal.invariant-loop
