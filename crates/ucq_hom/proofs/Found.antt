@@ -10,7 +10,7 @@ use Rattle.ucq_terms.specs.Syntax.{Atom, atom_image}
 use Rattle.ucq_terms.specs.Unifier.{atom_at}
 use Rattle.ucq_terms.proofs.Decide.{atom_path}
 use Rattle.ucq_terms.proofs.Images.{atom_image-agree}
-use Rattle.ucq_hom.specs.Levels.{Counts, ExtendsAt, HasLevelsOf, IsNoted, IsSubset, KeepsLevels}
+use Rattle.ucq_hom.specs.Levels.{Counts, ExtendsAt, HasLevelsOf, IsNoted, IsLevelSubset, KeepsLevels}
 use Rattle.ucq_hom.proofs.Noted.{IsDeeper, IsDeeper-noted, ExtendsAt-less, ExtendsAt-matched, ExtendsAt-jump, HasLevelsOf-within, patched, patched-same, Extends-patched}
 use Rattle.ucq_terms.proofs.Lists.{Contains-first, Contains-rest, Contains-cons_cases, Contains-empty}
 use Rattle.ucq_terms.proofs.Subsets.{OccursIn-at}
@@ -109,7 +109,7 @@ IsPast-clash b levels set from atom rest to skip j p l k = IsPast-more b levels 
 
 -- the rest is blocked once the atom is matched onto the target
 pub IsPast-blocked : (b c : Bound) (levels deep : List ℕ) (level set next deeper : ℕ) (from : List Atom) (atom : Atom) (rest : List ℕ) (to : List Atom) (skip j : ℕ) →
-    IsPast b levels set from atom rest to skip j → HasLevelsOf b levels set atom.terms → IsSubset set next → IsSubset deeper next → IsDeeper b c levels deep level →
+    IsPast b levels set from atom rest to skip j → HasLevelsOf b levels set atom.terms → IsLevelSubset set next → IsLevelSubset deeper next → IsDeeper b c levels deep level →
     IsMatched b c atom.terms (atom_at to j).terms → IsBlocked c deep deeper from rest (remove to skip) → IsPast b levels next from atom rest to skip (j + 1)
 IsPast-blocked b c levels deep level set next deeper from atom rest to skip j p l v w d m k =
     IsPast-more b levels next from atom rest to skip j (record { none = λ h e. p.none h (ExtendsAt-less h b levels set next v e) }) (λ h e s n i.

@@ -17,24 +17,24 @@ use Rattle.ucq_terms.proofs.Images.{terms_image-agree}
 use Rattle.ucq_terms.proofs.Lists.{Contains-empty}
 use Rattle.ucq_hom.specs.Space.{image}
 use Rattle.ucq_hom.specs.Bindings.{Bound, Extends, Grown, IsKept, IsMatched}
-use Rattle.ucq_hom.specs.Levels.{Counts, ExtendsAt, IsSubset, HasLevelsOf, IsNoted, KeepsLevels, level_of}
+use Rattle.ucq_hom.specs.Levels.{Counts, ExtendsAt, IsLevelSubset, HasLevelsOf, IsNoted, KeepsLevels, level_of}
 use Rattle.ucq_hom.proofs.Trail.{Grown-kept, image_below, image_none, some_or_none}
 use Rattle.ucq_hom.proofs.Matched.{IsSome-grown, the_value}
 
 -- Sets of levels.
-pub IsSubset-refl : (a : ℕ) → IsSubset a a
-IsSubset-refl a = record { each = λ l c. c }
+pub IsLevelSubset-refl : (a : ℕ) → IsLevelSubset a a
+IsLevelSubset-refl a = record { each = λ l c. c }
 
-pub IsSubset-left : (a b : ℕ) → IsSubset a (bit_or a b)
-IsSubset-left a b = record {
+pub IsLevelSubset-left : (a b : ℕ) → IsLevelSubset a (bit_or a b)
+IsLevelSubset-left a b = record {
   each = λ l c. elim c [
     | inl e ↦ inl e
     | inr e ↦ inr (let o = bit_at_or a b l in let p = bit_at-lt b l in omega arith)
   ];
 }
 
-pub IsSubset-right : (a b : ℕ) → IsSubset b (bit_or a b)
-IsSubset-right a b = record {
+pub IsLevelSubset-right : (a b : ℕ) → IsLevelSubset b (bit_or a b)
+IsLevelSubset-right a b = record {
   each = λ l c. elim c [
     | inl e ↦ inl e
     | inr e ↦ inr (let o = bit_at_or a b l in let p = bit_at-lt a l in omega arith)
@@ -43,7 +43,7 @@ IsSubset-right a b = record {
 
 -- one term more
 pub HasLevelsOf-more : (b : Bound) (levels : List ℕ) (set next : ℕ) (terms : List Term) (i : ℕ) (d : Term) → i < length terms → HasLevelsOf b levels set (take i terms) →
-    ((v : ℕ) → get_or terms i d ≡ Variable v → IsSome (image b.images v) → Counts next (level_of levels v)) → IsSubset set next →
+    ((v : ℕ) → get_or terms i d ≡ Variable v → IsSome (image b.images v) → Counts next (level_of levels v)) → IsLevelSubset set next →
     HasLevelsOf b levels next (take (i + 1) terms)
 HasLevelsOf-more b levels set next terms i d l h f w = record {
   each = λ v c s. elim (Contains-push_cases (take i terms) (get_or terms i d) (Variable v) (subst (λ (x : List Term). Contains x (Variable v)) (take_more terms i d l) c)) [
@@ -87,10 +87,10 @@ variables_below b mark v k c =
 pub ExtendsAt-all : (h : ℕ → Term) (b : Bound) (levels : List ℕ) (set : ℕ) → Extends h b → ExtendsAt h b levels set
 ExtendsAt-all h b levels set e = record { agrees = λ v t i c. e.agrees v t i }
 
-pub ExtendsAt-less : (h : ℕ → Term) (b : Bound) (levels : List ℕ) (set whole : ℕ) → IsSubset set whole → ExtendsAt h b levels whole → ExtendsAt h b levels set
+pub ExtendsAt-less : (h : ℕ → Term) (b : Bound) (levels : List ℕ) (set whole : ℕ) → IsLevelSubset set whole → ExtendsAt h b levels whole → ExtendsAt h b levels set
 ExtendsAt-less h b levels set whole w e = record { agrees = λ v t i c. e.agrees v t i (w.each (level_of levels v) c) }
 
-pub HasLevelsOf-within : (b : Bound) (levels : List ℕ) (set whole : ℕ) (terms : List Term) → IsSubset set whole → HasLevelsOf b levels set terms → HasLevelsOf b levels whole terms
+pub HasLevelsOf-within : (b : Bound) (levels : List ℕ) (set whole : ℕ) (terms : List Term) → IsLevelSubset set whole → HasLevelsOf b levels set terms → HasLevelsOf b levels whole terms
 HasLevelsOf-within b levels set whole terms w h = record { each = λ v i s. w.each (level_of levels v) (h.each v i s) }
 
 -- A map, but for the variables that are bound.
@@ -138,7 +138,7 @@ IsDeeper-noted b c first old new level g k n =
 
 -- a map that carries the atom's terms agrees deeper too
 pub ExtendsAt-matched : (b c : Bound) (old new : List ℕ) (level set deeper : ℕ) (terms targets : List Term) (h : ℕ → Term) → IsDeeper b c old new level →
-    IsMatched b c terms targets → HasLevelsOf b old set terms → IsSubset deeper set → ExtendsAt h b old set → terms_image h terms ≡ targets → ExtendsAt h c new deeper
+    IsMatched b c terms targets → HasLevelsOf b old set terms → IsLevelSubset deeper set → ExtendsAt h b old set → terms_image h terms ≡ targets → ExtendsAt h c new deeper
 ExtendsAt-matched b c old new level set deeper terms targets h d m l w e q =
     let p : Extends (patched b h) c = m.forced (patched b h) (Extends-patched b h) (terms_image-agree (patched b h) h terms (patched-same b h old set terms e l) ∙ q) in
     record {

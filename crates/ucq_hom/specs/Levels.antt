@@ -16,7 +16,7 @@ abbrev pub Counts : ℕ → ℕ → Type 0
 Counts set level = (LEVELS ≤ level) ⊎ (bit_at set level ≡ 1)
 
 -- each level of the first set is one of the second
-pub record IsSubset (set whole : ℕ) : Type 0 where
+pub record IsLevelSubset (set whole : ℕ) : Type 0 where
   pub each : (level : ℕ) → Counts set level → Counts whole level
 
 -- the levels of the bound variables among the terms are in the set

@@ -5,7 +5,7 @@ ghost use Rattle.std.specs.Prelude.{◌≡◌, ◌<◌, ◌≤◌, ◌↔◌, �
 ghost use Rattle.ucq_terms.specs.declared.Term.TheVariants.{Variable};
 ghost use Rattle.ucq_terms.specs.declared.TheConstants.{VARIABLES};
 ghost use Rattle.ucq_hom.specs.Space.{image};
-ghost use Rattle.ucq_hom.specs.Levels.{Counts, HasLevelsOf, IsNoted, IsSubset, level_of};
+ghost use Rattle.ucq_hom.specs.Levels.{Counts, HasLevelsOf, IsNoted, IsLevelSubset, level_of};
 ghost use Rattle.ucq_hom.specs.Search.{HasLowTerms};
 
 use crate::bindings::Bindings;
@@ -23,15 +23,15 @@ pub fn has_level(set: u128, level: u32) -> bool
 
 /// The levels of both sets.
 pub fn union(a: u128, b: u128) -> u128
-    ensures left { IsSubset a result }
-    ensures right { IsSubset b result }
+    ensures left { IsLevelSubset a result }
+    ensures right { IsLevelSubset b result }
 {
     a | b
 }
 
 fn with_level(set: u128, level: u32) -> u128
     ensures added { Counts result level }
-    ensures kept { IsSubset set result }
+    ensures kept { IsLevelSubset set result }
 {
     if level < LEVELS {
         set | 1 << level
@@ -47,7 +47,7 @@ fn with_binder(bindings: &Bindings, levels: &[u32], set: u128, term: Term) -> u1
         term ≡ Variable v →
         IsSome (image bindings.now.images v) →
         Counts result (level_of levels.now v) }
-    ensures kept { IsSubset set result }
+    ensures kept { IsLevelSubset set result }
 {
     match term {
         Term::Constant(_) => set,
