@@ -4,12 +4,12 @@ use Rattle.std.specs.List.{remove}
 use Rattle.std.proofs.lemmas.List.Elements.{Contains-get_or}
 use Rattle.ucq_terms.specs.declared.Term.{Term}
 use Rattle.ucq_terms.specs.declared.Term.TheVariants.{Variable}
-use Rattle.ucq_terms.specs.Syntax.{Atom, Query, IsLevelSubset, atom_image, atoms_image}
+use Rattle.ucq_terms.specs.Syntax.{Atom, Query, IsSubset, atom_image, atoms_image}
 use Rattle.ucq_terms.specs.Homomorphism.{IsHomomorphism, MapsInto}
 use Rattle.ucq_terms.specs.Query.{IsStored}
 use Rattle.ucq_terms.specs.Unifier.{atom_at}
 use Rattle.ucq_terms.proofs.Lists.{Contains-cons_cases, Contains-empty}
-use Rattle.ucq_terms.proofs.Images.{IsLevelSubset-from_image, IsLevelSubset-image}
+use Rattle.ucq_terms.proofs.Images.{IsSubset-from_image, IsSubset-image}
 use Rattle.ucq_terms.proofs.Places.{place_of}
 use Rattle.ucq_terms.proofs.Subsets.{OccursIn-atom}
 use Rattle.ucq_hom.specs.Space.{IsClear, or_itself, mapping, GivesHomomorphism}
@@ -54,7 +54,7 @@ GivesHomomorphism-found a b c q order targets tuple clear m o f =
         ],
       );
       homomorphism = record {
-        atoms = IsLevelSubset-from_image (mapping c.images) q.atoms targets (λ x k.
+        atoms = IsSubset-from_image (mapping c.images) q.atoms targets (λ x k.
             let (place, l, p) = place_of q.atoms x k in
             subst (λ (y : Atom). Contains targets (atom_image (mapping c.images) y)) p ((f.sent (mapping c.images) e).each place (o.all place l)));
         answers = m.carried (mapping c.images) (Extends-less b c (mapping c.images) f.grown e);
@@ -69,7 +69,7 @@ none_by_clash a q targets tuple clear k m = k.none m.mapping (Extends-clear m.ma
 pub Sends-homomorphism : (h : ℕ → Term) (q : Query) (order : List ℕ) (targets : List Atom) (tuple : List Term) → ArePlaces q.atoms order →
     IsHomomorphism h q targets tuple → Sends h q.atoms order targets
 Sends-homomorphism h q order targets tuple p s = record {
-  each = λ place i. IsLevelSubset-image h q.atoms targets s.atoms (atom_at q.atoms place) (Contains-get_or q.atoms place _ (p.within place i));
+  each = λ place i. IsSubset-image h q.atoms targets s.atoms (atom_at q.atoms place) (Contains-get_or q.atoms place _ (p.within place i));
 }
 
 -- where the atoms at some places are blocked, there is none either
@@ -90,6 +90,6 @@ remove_past (x ∷ xs) = ap (λ l. x ∷ l) (remove_past xs)
 
 -- where some atom has no image under the answers, there is none
 pub none_by_images : (a b : Bound) (q : Query) (targets : List Atom) (tuple : List Term) → IsClear a.images → IsMatched a b q.answers tuple →
-    ((h : ℕ → Term) → Extends h b → IsLevelSubset (atoms_image h q.atoms) targets → ⊥) → MapsInto q targets tuple → ⊥
+    ((h : ℕ → Term) → Extends h b → IsSubset (atoms_image h q.atoms) targets → ⊥) → MapsInto q targets tuple → ⊥
 none_by_images a b q targets tuple clear m none s =
     none s.mapping (m.forced s.mapping (Extends-clear s.mapping a clear) s.homomorphism.answers) s.homomorphism.atoms

@@ -2,7 +2,7 @@
 //! this is told without an order of the atoms.
 ghost use Rattle.std.specs.Prelude.{◌≡◌, ℕ, false, Contains};
 ghost use Rattle.ucq_terms.specs.declared.Term.{Term};
-ghost use Rattle.ucq_terms.specs.Syntax.{IsLevelSubset, atom_image, atoms_image};
+ghost use Rattle.ucq_terms.specs.Syntax.{IsSubset, atom_image, atoms_image};
 ghost use Rattle.ucq_hom.specs.Bindings.{Extends};
 ghost use Rattle.ucq_hom.specs.Search.{HasLowTerms, HasLowAtoms};
 
@@ -37,7 +37,7 @@ pub fn have_images(bindings: &mut Bindings, atoms: &[Atom], targets: &[Atom]) ->
     ensures none { result ≡ false →
         (h : ℕ → Term) →
         Extends h bindings.old →
-        IsLevelSubset (atoms_image h atoms.now) targets.now →
+        IsSubset (atoms_image h atoms.now) targets.now →
         ⊥ }
     ensures undone { bindings.new ≡ bindings.old }
 {

@@ -1,5 +1,5 @@
 use Rattle.std.proofs.Common.{Contains, sym, subst}
-use Rattle.ucq_terms.proofs.Images.{IsLevelSubset-image}
+use Rattle.ucq_terms.proofs.Images.{IsSubset-image}
 use Rattle.ucq_terms.proofs.Subsets.{OccursIn-from_atom}
 use Rattle.ucq_terms.specs.declared.Term.TheVariants.{Variable}
 use Rattle.ucq_hom.specs.Bindings.{Bound, Extends}
@@ -14,4 +14,4 @@ pub returns-then-not-has_image-clause-none : goal.returns-then-not-has_image-cla
 returns-then-not-has_image-clause-none c = λ _ h e s.
     let here : Contains c.args.atoms.now c.atom-item.result = (c.loop-atom.atom-index, c.loop-atom-test.true, sym c.atom-item.is) in
     c.has_image.ensures.none c.if-not-has_image.true h (subst (λ (b : Bound). Extends h b) (sym c.loop-atom.invariant) e)
-    (IsLevelSubset-image h c.args.atoms.now c.args.targets.now s c.atom-item.result here)
+    (IsSubset-image h c.args.atoms.now c.args.targets.now s c.atom-item.result here)

@@ -1,6 +1,6 @@
 use Rattle.std.proofs.Common.{List, sym, subst}
 use Rattle.ucq_terms.specs.declared.Term.{Term}
-use Rattle.ucq_terms.specs.Syntax.{Atom, IsLevelSubset, atoms_image}
+use Rattle.ucq_terms.specs.Syntax.{Atom, IsSubset, atoms_image}
 use Rattle.ucq_hom.specs.Bindings.{IsMatched, IsClash}
 use Rattle.ucq_hom.specs.Search.{HasLowTerms, HasLowAtoms}
 use Rattle.ucq_hom.proofs.Homs.{HasLowTerms-answers, HasLowAtoms-atoms, none_by_clash, none_by_images}
@@ -29,5 +29,5 @@ returns-clause-none c = λ e.
     (subst (λ (x : List Term). IsMatched c.clear.new.self c.match_terms.new.bindings x c.answers-2.result.now) c.answers.ensures.answers
     (c.match_terms.ensures.matched c.if-not-match_terms.false)))
     (λ h extends s. c.have_images-found.ensures.none e h extends
-    (subst (λ (ys : List Atom). IsLevelSubset (atoms_image h c.atoms.result.now) ys) (sym c.atoms-2.ensures.atoms)
-    (subst (λ (xs : List Atom). IsLevelSubset (atoms_image h xs) to.atoms) (sym c.atoms.ensures.atoms) s)))
+    (subst (λ (ys : List Atom). IsSubset (atoms_image h c.atoms.result.now) ys) (sym c.atoms-2.ensures.atoms)
+    (subst (λ (xs : List Atom). IsSubset (atoms_image h xs) to.atoms) (sym c.atoms.ensures.atoms) s)))
