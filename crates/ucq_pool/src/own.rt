@@ -14,6 +14,9 @@ use ucq_log::{Entry, Log, Seen};
 use ucq_store::{Candidate, Report};
 use ucq_terms::{NoMemory, Query, ROWS};
 
+// How many of its last entries a worker looks at. The store, which finds rows by an index, tells of what was added longer ago.
+const NEWEST: usize = 256;
+
 /// A log, and the entries that one worker added to it.
 #[derive(Drop)]
 pub(crate) struct Own<'l> {
@@ -42,13 +45,14 @@ impl<'l> Own<'l> {
         Own { log, entries }
     }
 
-    /// The row and the query of an entry that covers the core, if one is found.
+    /// The row and the query of an entry that covers the core, if one is found among the newest.
     fn seen(&self, space: &mut HomSpace, core: &Query) -> Option<(u32, &'l Query)>
         ensures covers { IfSome result (λ found. Covers found.1.now core.now) }
         ensures clear { IsClear space.new }
     {
-        match self.log.seen(space, self.entries.as_slice(), core)? {
-            Seen::Own { place } => Some(told(self.log, &self.entries[place as usize])),
+        let newest = &self.entries[self.entries.len().saturating_sub(NEWEST)..];
+        match self.log.seen(space, newest, core)? {
+            Seen::Own { place } => Some(told(self.log, &newest[place as usize])),
             Seen::Other { entry } => Some(told(self.log, &entry)),
         }
     }
