@@ -28,13 +28,6 @@ pub key_own : (list : List ℕ) (m : Marks) (key : ℕ) → IsListOf list m.firs
 key_own list m key l (inl e) = inl e
 key_own list m key l (inr (k, n, beside)) = let (low, bit) = l.only k n in inr (get_or list k 0, low, bit, beside)
 
-key_low : (m : Marks) (key : ℕ) → IsKeyOf m key → key ≤ 16384
-key_low m key (inl e) = omega arith
-key_low m key (inr (first, low, bit, beside)) = let s = beside.low in let e = beside.key_is in omega arith
-
-pub chosen_low : (list : List ℕ) (m : Marks) (key : ℕ) → IsListOf list m.first → IsKey list m.second key → key ≤ 16384
-chosen_low list m key l k = key_low m key (key_own list m key l k)
-
 module _ (groups : ℕ) (signatures : List Marks) (all words : Sets) (chains : Chained) (i : IsIndex groups signatures all words chains) (m : Marks) (list : List ℕ) (row : ℕ)
     (room : length signatures < 4096 * groups) (at : row ≡ length signatures) (l : IsListOf list m.first) where
   abbrev more : List Marks

@@ -52,9 +52,6 @@ module _ (heads next : List ℕ) (key link : ℕ) (f : Fall next) (size : link �
   last : get_or more link 0 ≡ get_or heads key 0
   last = get_or_at next (get_or heads key 0) [] 0 link (sym size)
 
-  pub new_in_chain : (row : ℕ) → length next ≡ row + 1 → Reaches more (get_or (set heads key link) key 0) (row + 1)
-  new_in_chain row e = record { steps = 0; there = head ∙ size ∙ e }
-
   pub old_in_chain : (k row : ℕ) → Reaches next (get_or heads k 0) (row + 1) → Reaches more (get_or (set heads key link) k 0) (row + 1)
   old_in_chain k row r = elim (cases_eq k key) [
     | inl e ↦ record {
@@ -135,9 +132,6 @@ module _ (heads next filled : List ℕ) (key link after : ℕ) (now : List ℕ) 
   Keeps-pushed room wider = record {
     each = λ k row r. subst (λ (xs : List ℕ). Reaches xs (get_or (set heads key link) k 0) (row + 1)) same (old_in_chain heads next key link f size below c.within k row r);
   }
-
-  pub has_pushed : (row : ℕ) → length next ≡ row + 1 → Reaches now (get_or (set heads key link) key 0) (row + 1)
-  has_pushed row last = subst (λ (xs : List ℕ). Reaches xs (get_or (set heads key link) key 0) (row + 1)) same (new_in_chain heads next key link f size below c.within row last)
 
   pub pushed : (place marks mark : ℕ) → place ≡ key / 128 → mark ≡ key % 128 → bit_at marks mark ≡ 1 → ((i : ℕ) → bit_at (get_or filled place 0) i ≡ 1 → bit_at marks i ≡ 1) →
       AreChains (set heads key link) now (set filled place marks)

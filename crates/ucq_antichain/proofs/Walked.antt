@@ -30,9 +30,6 @@ module _ (rows : List Row) (q : Query) (chains : Chained) where
   pub record SoFar (from link best : ℕ) : Type 0 where
     pub each : (row : ℕ) → Reaches chains.next from (row + 1) → IsLiveAt rows row → Covers (query_at rows row) q → (best ≤ row) ⊎ Reaches chains.next link (row + 1)
 
-  pub begun_at : (from best : ℕ) → SoFar from from best
-  begun_at from best = record { each = λ row r live covers. inr r }
-
   pub one_further : (from link next best found row : ℕ) → SoFar from link best → found ≤ best → link ≡ row + 1 → next ≡ get_or chains.next link 0 →
       (IsLiveAt rows row → Covers (query_at rows row) q → found ≤ row) → SoFar from next found
   one_further from link next best found row h earlier at is here = record {
