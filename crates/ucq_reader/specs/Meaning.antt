@@ -1,5 +1,5 @@
 -- What statements stand for, in texts, and the first refusal.
-use Rattle.std.specs.Prelude.{ℕ, ◌+◌, Bool, false, not, nat_lt, List, [], ◌∷◌, ◌++◌, map, length, take, drop, zip, Option, Some, None, Result, Ok, Err, ◌^◌}
+use Rattle.std.specs.Prelude.{ℕ, ◌+◌, Bool, false, not, nat_lt, List, [], ◌∷◌, ◌++◌, map, length, take, drop, zip, Option, Some, None, Result, Ok, Err}
 use Rattle.ucq_terms.specs.declared.TheConstants.{FACTS, RULES}
 use Rattle.std.specs.List.{list_any, find, filter_map, flat_map, enumerate_from}
 use Rattle.std.specs.Str.{bytes_eq}

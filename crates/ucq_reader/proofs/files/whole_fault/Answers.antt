@@ -2,8 +2,8 @@ use Rattle.std.proofs.Common.{sym, ◌∙◌, arith}
 use Rattle.ucq_reader.proofs.Counting.{many_facts, few_enough, no_query, many_queries, one_query, no_query_by, a_query_by}
 use Rattle.ucq_reader.proofs.files.whole_fault.Goals as goal
 
-pub returns-then-facts-gt-FACTS-clause-whole : goal.returns-then-facts-gt-FACTS-clause-whole
-returns-then-facts-gt-FACTS-clause-whole c = λ all h. many_facts all c.args.gathered.now c.rule_count-rules.result c.fact_count-facts.result h c.rule_count-rules.ensures c.fact_count-facts.ensures (omega arith) (omega arith)
+pub returns-then-facts-clause-whole : goal.returns-then-facts-clause-whole
+returns-then-facts-clause-whole c = λ all h. many_facts all c.args.gathered.now c.rule_count-rules.result c.fact_count-facts.result h c.rule_count-rules.ensures c.fact_count-facts.ensures (omega arith) (omega arith)
 
 pub returns-then-not-has_query-clause-whole : goal.returns-then-not-has_query-clause-whole
 returns-then-not-has_query-clause-whole c = λ all h. no_query all c.args.gathered.now h (few_enough all c.args.gathered.now c.rule_count-rules.result c.fact_count-facts.result h c.rule_count-rules.ensures c.fact_count-facts.ensures (omega arith) (omega arith)) (no_query_by c.has_query.result c.args.gathered.now.query c.has_query.ensures c.if-not-has_query.true)
