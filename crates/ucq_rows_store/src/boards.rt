@@ -1,14 +1,30 @@
 //! Small boards, and one that two threads share.
-ghost use Rattle.std.specs.Prelude.{◌≡◌};
+ghost use Rattle.std.specs.Prelude.{◌≡◌, ◌≤◌};
+ghost use Rattle.ucq_board.specs.Rule.{fresh};
 ghost use Rattle.ucq_board.specs.Steps.{drew};
 ghost use Rattle.ucq_board.specs.Calls.{DrawsNone};
 ghost use Rattle.ucq_board.specs.Values.{IsSeatOf};
 
 use crate::asserts::{equal, holds};
+use std::alloc::Global;
 use std::process::Abort;
-use std::test::Fail;
 use std::thread::join;
 use ucq_board::{Board, Seat};
+
+/// A board with so many rows and seats, and its first seat.
+fn opened(rt: &impl Abort, alloc: Global, rows: u32, seats: u32) -> (Board, Seat)
+    requires rows { rows ≤ 65536 }
+    requires some { 1 ≤ seats }
+    requires seats { seats ≤ 128 }
+    ensures board { (result.0.rows ≡ rows) × (result.0.seats ≡ seats) }
+    ensures seat { IsOf result.0 result.1 }
+    ensures view { result.1.view ≡ fresh (record { rows = rows; seats = seats }) }
+{
+    match Board::new(alloc, rows, seats) {
+        Ok(opened) => opened,
+        Err(fault) => panic!(rt; "{fault:?}"),
+    }
+}
 
 /// Asserts that the seat draws this row.
 fn draws(rt: &impl Abort, board: &Board, seat: &mut Seat, row: u32)
@@ -35,8 +51,8 @@ fn draws_none(rt: &impl Abort, board: &Board, seat: &mut Seat)
 }
 
 #[test]
-fn two_seats_draw_and_finish_three_rows(rt: HostRuntime) -> Result<(), Fail> {
-    let (board, mut first) = Board::new(rt.alloc(), 3, 2)?;
+fn two_seats_draw_and_finish_three_rows(rt: HostRuntime) {
+    let (board, mut first) = opened(&rt, rt.alloc(), 3, 2);
     equal(&rt, first.spare(), 1, "count");
     let mut second = board.split(&mut first);
     draws(&rt, &board, &mut first, 0);
@@ -58,12 +74,11 @@ fn two_seats_draw_and_finish_three_rows(rt: HostRuntime) -> Result<(), Fail> {
         &rt,
         closed.is_done(0) && closed.is_done(1) && closed.is_done(2),
     );
-    Ok(())
 }
 
 #[test]
-fn a_stopped_seat_draws_no_row(rt: HostRuntime) -> Result<(), Fail> {
-    let (board, mut seat) = Board::new(rt.alloc(), 3, 1)?;
+fn a_stopped_seat_draws_no_row(rt: HostRuntime) {
+    let (board, mut seat) = opened(&rt, rt.alloc(), 3, 1);
     holds(&rt, !board.is_stopped(&mut seat));
     board.stop(&mut seat);
     holds(&rt, board.is_stopped(&mut seat));
@@ -72,7 +87,6 @@ fn a_stopped_seat_draws_no_row(rt: HostRuntime) -> Result<(), Fail> {
     let closed = board.close(seat);
     equal(&rt, closed.drawn(), 0, "count");
     holds(&rt, closed.is_stopped() && !closed.is_done(0));
-    Ok(())
 }
 
 /// Draws and finishes rows to the end.
@@ -90,8 +104,8 @@ fn work(board: &Board, mut seat: Seat) -> Seat
 }
 
 #[test]
-fn two_threads_draw_all_rows(rt: HostRuntime) -> Result<(), Fail> {
-    let (board, mut first) = Board::new(rt.alloc(), 1000, 2)?;
+fn two_threads_draw_all_rows(rt: HostRuntime) {
+    let (board, mut first) = opened(&rt, rt.alloc(), 1000, 2);
     let second = board.split(&mut first);
     let shared = &board;
     let (mut first, second) = join(
@@ -112,5 +126,4 @@ fn two_threads_draw_all_rows(rt: HostRuntime) -> Result<(), Fail> {
     for row in 0..1000 {
         holds(&rt, closed.is_done(row));
     }
-    Ok(())
 }

@@ -2,25 +2,33 @@
 ghost use Rattle.std.specs.Prelude.{◌≡◌, ◌≤◌, length, IfOk, All};
 ghost use Rattle.ucq_log.specs.Log.{IsEntryOf};
 
-use crate::asserts::{equal, holds};
+use crate::asserts::{asked, equal, holds, room, sure};
 use std::alloc::Global;
+use std::process::Abort;
 use std::sync::Wait;
-use std::test::Fail;
 use std::thread;
 use std::thread::Threads;
-use ucq_hom::HomSpace;
 use ucq_log::laws::entries_agree;
 use ucq_log::{Entry, Log, Seen, Unkept};
 use ucq_terms::Query;
-use ucq_worked::query;
+
+/// A log without entries.
+fn fresh(rt: &impl Abort, alloc: Global) -> Log {
+    sure(rt, Log::new(alloc))
+}
 
 /// The entry of the row and the query of the text.
+<<<<<<< HEAD
 fn added<R: Wait>(rt: &R, alloc: Global, log: &Log, row: u32, text: &str) -> Result<Entry, Fail>
     ensures { IfOk result (λ e. IsEntryOf log.now e) }
+=======
+fn added<R: Wait + Abort>(rt: &R, alloc: Global, log: &Log, row: u32, text: &str) -> Entry
+    ensures { IsOf log.now result }
+>>>>>>> ce34509e03cabbaffd39f8c6afc0a03eda898edc
 {
-    match log.add(rt, row, query(alloc, text)?) {
-        Ok(entry) => Ok(entry),
-        Err(_) => Err("no memory")?,
+    match log.add(rt, row, asked(rt, alloc, text)) {
+        Ok(entry) => entry,
+        Err(_) => panic!(rt; "no memory"),
     }
 }
 
@@ -43,24 +51,24 @@ fn other(row: u32, place: u64) -> Option<Found> {
 
 /// What is seen of the first text, where the second is that of an entry which may be found.
 fn seen(
+    rt: &impl Abort,
     alloc: Global,
     log: &Log,
     own: &[Entry],
-    text: &str,
-    there: &str,
-) -> Result<Option<Found>, Fail>
+    texts: (&str, &str),
+) -> Option<Found>
     requires few { length own.now ≤ 65536 }
     requires ours { All (λ e. IsEntryOf log.now e) own.now }
 {
-    let mut space = HomSpace::new(alloc)?;
-    let there = query(alloc, there)?;
-    Ok(match log.seen(&mut space, own, &query(alloc, text)?) {
-        Some(Seen::Own { place }) => Some(Found::Own { place }),
-        Some(Seen::Other { entry }) => Some(Found::Other {
+    let mut space = room(rt, alloc);
+    match log.seen(&mut space, own, &asked(rt, alloc, texts.0))? {
+        Seen::Own { place } => Some(Found::Own { place }),
+        Seen::Other { entry } => Some(Found::Other {
             row: log.row(&entry),
             place: entry.place(),
-            same: log.value(&entry).same(&there),
+            same: log.value(&entry).same(&asked(rt, alloc, texts.1)),
         }),
+<<<<<<< HEAD
         None => None,
     })
 }
@@ -116,16 +124,59 @@ fn twice<R: Wait>(rt: &R, alloc: Global, log: &Log) -> Result<(Entry, Entry), Fa
     match log.seen(&mut space, &[], &query(alloc, "? pa")?) {
         Some(Seen::Other { entry: other }) => Ok((entry, other)),
         _ => Err("not found")?,
+=======
+>>>>>>> ce34509e03cabbaffd39f8c6afc0a03eda898edc
     }
 }
 
 #[test]
-fn entries_of_one_place_agree(rt: HostRuntime) -> Result<(), Fail> {
-    let log = Log::new(rt.alloc())?;
-    let (first, second) = twice(&rt, rt.alloc(), &log)?;
+fn own_entries_are_seen_first(rt: HostRuntime) {
+    let log = fresh(&rt, rt.alloc());
+    let own = [added(&rt, rt.alloc(), &log, 1, "? pX")];
+    let found = seen(&rt, rt.alloc(), &log, &own, ("? pa", "? pX"));
+    equal(&rt, found, Some(Found::Own { place: 0 }), "pa");
+    let found = seen(&rt, rt.alloc(), &log, &own, ("? qa", "? pX"));
+    equal(&rt, found, None, "qa");
+}
+
+#[test]
+fn other_entries_are_found(rt: HostRuntime) {
+    let log = fresh(&rt, rt.alloc());
+    added(&rt, rt.alloc(), &log, 1, "? pX");
+    let found = seen(&rt, rt.alloc(), &log, &[], ("? pa", "? pX"));
+    equal(&rt, found, other(1, 0), "pa");
+    let found = seen(&rt, rt.alloc(), &log, &[], ("? qa", "? pX"));
+    equal(&rt, found, None, "qa");
+}
+
+#[test]
+fn the_newest_is_found(rt: HostRuntime) {
+    let log = fresh(&rt, rt.alloc());
+    added(&rt, rt.alloc(), &log, 1, "? pX");
+    added(&rt, rt.alloc(), &log, 2, "? pX");
+    let own = [added(&rt, rt.alloc(), &log, 3, "? qX")];
+    let found = seen(&rt, rt.alloc(), &log, &own, ("? pa", "? pX"));
+    equal(&rt, found, other(2, 1), "pa");
+}
+
+/// The entry of another that is seen of the text.
+fn seen_of_another(rt: &impl Abort, alloc: Global, log: &Log, text: &str) -> Entry
+    ensures { IsOf log.now result }
+{
+    let mut space = room(rt, alloc);
+    match log.seen(&mut space, &[], &asked(rt, alloc, text)) {
+        Some(Seen::Other { entry }) => entry,
+        _ => panic!(rt; "not found"),
+    }
+}
+
+#[test]
+fn entries_of_one_place_agree(rt: HostRuntime) {
+    let log = fresh(&rt, rt.alloc());
+    let first = added(&rt, rt.alloc(), &log, 1, "? pX");
+    let second = seen_of_another(&rt, rt.alloc(), &log, "? pa");
     assert!(rt; first.place() == second.place());
     entries_agree(&log, &first, &second);
-    Ok(())
 }
 
 /// Two threads add to one log.
@@ -149,6 +200,7 @@ fn added_by_two<R: Threads + Wait + Sync>(
     )
 }
 
+<<<<<<< HEAD
 /// The row of the entry, and whether its query is that of the text.
 fn told(
     alloc: Global,
@@ -157,11 +209,15 @@ fn told(
     text: &str,
 ) -> Result<Option<(u32, bool)>, Fail>
     requires { IfOk entry.now (λ e. IsEntryOf log.now e) }
+=======
+/// The row of the entry, and whether its query is the given one.
+fn told(log: &Log, entry: &Result<Entry, Unkept>, wanted: &Query) -> Option<(u32, bool)>
+    requires { IfOk entry.now (λ e. IsOf log.now e) }
+>>>>>>> ce34509e03cabbaffd39f8c6afc0a03eda898edc
 {
-    let wanted = query(alloc, text)?;
     match entry {
-        Ok(entry) => Ok(Some((log.row(entry), log.value(entry).same(&wanted)))),
-        Err(_) => Ok(None),
+        Ok(entry) => Some((log.row(entry), log.value(entry).same(wanted))),
+        Err(_) => None,
     }
 }
 
@@ -174,22 +230,14 @@ fn are_apart(first: &Result<Entry, Unkept>, second: &Result<Entry, Unkept>) -> b
 }
 
 #[test]
-fn threads_share_a_log(rt: HostRuntime) -> Result<(), Fail> {
-    let log = Log::new(rt.alloc())?;
-    let (one, other) = (query(rt.alloc(), "? pX")?, query(rt.alloc(), "? qa")?);
+fn threads_share_a_log(rt: HostRuntime) {
+    let log = fresh(&rt, rt.alloc());
+    let one = asked(&rt, rt.alloc(), "? pX");
+    let other = asked(&rt, rt.alloc(), "? qa");
     let (first, second) = added_by_two(&rt, &log, one, other);
-    equal(
-        &rt,
-        told(rt.alloc(), &log, &first, "? pX")?,
-        Some((1, true)),
-        "first",
-    );
-    equal(
-        &rt,
-        told(rt.alloc(), &log, &second, "? qa")?,
-        Some((2, true)),
-        "second",
-    );
+    let found = told(&log, &first, &asked(&rt, rt.alloc(), "? pX"));
+    equal(&rt, found, Some((1, true)), "first");
+    let found = told(&log, &second, &asked(&rt, rt.alloc(), "? qa"));
+    equal(&rt, found, Some((2, true)), "second");
     holds(&rt, are_apart(&first, &second));
-    Ok(())
 }

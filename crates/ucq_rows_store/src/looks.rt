@@ -1,25 +1,26 @@
 //! What is looked at in a store, and what is asked of it.
-ghost use Rattle.std.specs.Prelude.{◌≡◌, ◌<◌, ◌≤◌, length};
+ghost use Rattle.std.specs.Prelude.{◌≡◌, ◌<◌, ◌≤◌, false, length};
 
+use crate::asserts::{asked, room, sure};
 use crate::reports::{Evidence, report_on};
 use std::alloc::Global;
-use std::test::Fail;
+use std::process::Abort;
 use ucq_hom::HomSpace;
 use ucq_store::{Claim, Published, Released, Report, RowState, Store};
 use ucq_terms::Problem;
-use ucq_worked::query;
 
 /// A new store of the problem, with that budget.
 pub(crate) fn opened<'p>(
+    rt: &impl Abort,
     alloc: Global,
     problem: &'p Problem,
     budget: u32,
-) -> Result<Store<'p>, Fail>
+) -> Store<'p>
     requires some { 0 < budget }
     requires small { budget ≤ 65536 }
 {
-    let mut space = HomSpace::new(alloc)?;
-    Ok(Store::new(alloc, &mut space, problem, budget)?)
+    let mut space = room(rt, alloc);
+    sure(rt, Store::new(alloc, &mut space, problem, budget))
 }
 
 /// The next claim.
@@ -48,13 +49,13 @@ pub(crate) fn mark_of(store: &Store, row: u32) -> Option<(bool, u32, RowState)> 
 
 /// Whether the row holds the query of the text.
 pub(crate) fn holds_query(
+    rt: &impl Abort,
     alloc: Global,
     store: &Store,
     row: u32,
     text: &str,
-) -> Result<bool, Fail> {
-    let wanted = query(alloc, text)?;
-    Ok(row < store.rows() && store.query_of(row).same(&wanted))
+) -> bool {
+    row < store.rows() && store.query_of(row).same(&asked(rt, alloc, text))
 }
 
 /// What became of a report, whether it is spent, and where its first candidate was added.
@@ -74,25 +75,38 @@ fn first_placed(report: &Report) -> Option<u32> {
     }
 }
 
+fn publish<'q>(
+    space: &mut HomSpace,
+    store: &mut Store,
+    claim: Claim,
+    report: &mut Report<'q>,
+) -> Published
+    requires { report.old.spent ≡ false }
+{
+    store.publish(space, claim, report)
+}
+
 /// What becomes of the report on the query of the text.
 pub(crate) fn published<'q>(
+    rt: &impl Abort,
     alloc: Global,
     store: &mut Store,
     problem: &'q Problem,
     claim: Claim,
     text: &str,
     evidence: Evidence<'q>,
-) -> Result<Outcome, Fail>
+) -> Outcome
     requires { length problem.now.rules ≡ 1 }
 {
-    let mut space = HomSpace::new(alloc)?;
-    let mut report = report_on(alloc, &mut space, problem, query(alloc, text)?, evidence)?;
-    let answer = store.publish(&mut space, claim, &mut report);
-    Ok(Outcome {
+    let mut space = room(rt, alloc);
+    let query = asked(rt, alloc, text);
+    let mut report = report_on(rt, alloc, &mut space, problem, query, evidence);
+    let answer = publish(&mut space, store, claim, &mut report);
+    Outcome {
         answer,
         spent: report.is_spent(),
         placed: first_placed(&report),
-    })
+    }
 }
 
 /// The outcome of a report that changes nothing.

@@ -4,13 +4,12 @@ use crate::looks::{
     claim, holds_query, mark_of, opened, published, raise, refused, release, taken,
 };
 use crate::reports::one_rule;
-use std::test::Fail;
 use ucq_store::{Claim, Published, Released, RowState};
 
 #[test]
-fn a_row_is_claimed_released_and_rewritten(rt: HostRuntime) -> Result<(), Fail> {
-    let problem = one_rule(rt.alloc(), "qX <- pX", "?X qX")?;
-    let mut store = opened(rt.alloc(), &problem, 2)?;
+fn a_row_is_claimed_released_and_rewritten(rt: HostRuntime) {
+    let problem = one_rule(&rt, rt.alloc(), "qX <- pX", "?X qX");
+    let mut store = opened(&rt, rt.alloc(), &problem, 2);
     let first = Claim { row: 0, number: 0 };
     equal(&rt, claim(&mut store), Some(first), "first claim");
     equal(&rt, claim(&mut store), None, "no other row");
@@ -29,9 +28,9 @@ fn a_row_is_claimed_released_and_rewritten(rt: HostRuntime) -> Result<(), Fail> 
     );
     let second = Claim { row: 0, number: 1 };
     equal(&rt, claim(&mut store), Some(second), "second claim");
-    let outcome = published(rt.alloc(), &mut store, &problem, second, "?X qX", None)?;
+    let outcome = published(&rt, rt.alloc(), &mut store, &problem, second, "?X qX", None);
     equal(&rt, outcome, taken(Some(1)), "taken");
-    let outcome = published(rt.alloc(), &mut store, &problem, second, "?X qX", None)?;
+    let outcome = published(&rt, rt.alloc(), &mut store, &problem, second, "?X qX", None);
     let state = RowState::Done;
     equal(
         &rt,
@@ -39,7 +38,7 @@ fn a_row_is_claimed_released_and_rewritten(rt: HostRuntime) -> Result<(), Fail> 
         refused(Published::Strange { state }),
         "strange",
     );
-    let outcome = published(rt.alloc(), &mut store, &problem, second, "?X pX", None)?;
+    let outcome = published(&rt, rt.alloc(), &mut store, &problem, second, "?X pX", None);
     equal(&rt, outcome, refused(Published::Foreign), "foreign");
     holds(&rt, raise(&mut store));
     equal(
@@ -48,19 +47,17 @@ fn a_row_is_claimed_released_and_rewritten(rt: HostRuntime) -> Result<(), Fail> 
         Some((true, 1, RowState::Open)),
         "row 1",
     );
-    holds(&rt, holds_query(rt.alloc(), &store, 1, "?X pX")?);
-    Ok(())
+    holds(&rt, holds_query(&rt, rt.alloc(), &store, 1, "?X pX"));
 }
 
 #[test]
-fn a_report_on_another_query_is_foreign(rt: HostRuntime) -> Result<(), Fail> {
-    let problem = one_rule(rt.alloc(), "qX <- pX", "?X qX")?;
-    let mut store = opened(rt.alloc(), &problem, 2)?;
+fn a_report_on_another_query_is_foreign(rt: HostRuntime) {
+    let problem = one_rule(&rt, rt.alloc(), "qX <- pX", "?X qX");
+    let mut store = opened(&rt, rt.alloc(), &problem, 2);
     let first = Claim { row: 0, number: 0 };
     equal(&rt, claim(&mut store), Some(first), "claim");
-    let outcome = published(rt.alloc(), &mut store, &problem, first, "?X pX", None)?;
+    let outcome = published(&rt, rt.alloc(), &mut store, &problem, first, "?X pX", None);
     equal(&rt, outcome, refused(Published::Foreign), "foreign");
     let state = RowState::Claimed { number: 0 };
     equal(&rt, mark_of(&store, 0), Some((true, 0, state)), "row 0");
-    Ok(())
 }

@@ -1,85 +1,76 @@
 //! What a rewriting on one thread ends with.
 ghost use Rattle.std.specs.Prelude.{◌<◌, ◌≤◌};
 
-use crate::asserts::holds;
+use crate::asserts::{asked, equal, holds, room, sure};
 use crate::looks::{holds_query, mark_of};
 use std::alloc::Global;
-use std::test::Fail;
-use ucq_hom::HomSpace;
+use std::process::Abort;
 use ucq_pool::alone;
 use ucq_store::{Cut, Store};
-use ucq_worked::{problem, query};
+use ucq_terms::{Problem, Query};
+use ucq_worked::problem;
 
-/// Whether the row is live, as deep as its number, and the query of the text.
-fn is_row(alloc: Global, store: &Store, row: u32, text: &str) -> Result<bool, Fail> {
+/// Whether the row is live and as deep as its number.
+fn is_live_at_depth(store: &Store, row: u32) -> bool {
     match mark_of(store, row) {
-        Some((live, depth, _)) => Ok(live && depth == row && holds_query(alloc, store, row, text)?),
-        None => Ok(false),
+        Some((live, depth, _)) => live && depth == row,
+        None => false,
     }
 }
 
-/// Whether these are the first rows, in order, and there are no others.
-fn has_rows(alloc: Global, store: &Store, texts: &[&str]) -> Result<bool, Fail> {
-    let mut row = 0;
+/// Asserts that these are the rows, in order, each live, as deep as its number, and the query of its text.
+fn assert_rows(rt: &impl Abort, alloc: Global, store: &Store, texts: &[&str]) {
+    let mut row = 0u32;
     for text in texts {
-        if row >= store.rows() || !is_row(alloc, store, row, text)? {
-            return Ok(false);
-        }
-        row += 1;
+        holds(rt, is_live_at_depth(store, row));
+        holds(rt, holds_query(rt, alloc, store, row, text));
+        row = row.saturating_add(1);
     }
-    Ok(row == store.rows())
+    equal(rt, store.rows(), row, "rows");
 }
 
-/// Whether the rewriting of the query under the rules is finished with just these rows, where it may have so many.
-fn ends_with(alloc: Global, rules: &[&str], budget: u32, rows: &[&str]) -> Result<bool, Fail>
+/// The query `?X rX` under these rules.
+fn asked_under(rt: &impl Abort, alloc: Global, rules: &[&str]) -> Problem {
+    sure(rt, problem(alloc, rules, "?X rX"))
+}
+
+/// The store of a rewriting that may have so many rows.
+fn rewritten<'p>(rt: &impl Abort, alloc: Global, problem: &'p Problem, budget: u32) -> Store<'p>
     requires some { 0 < budget }
     requires small { budget ≤ 65536 }
 {
-    let mut space = HomSpace::new(alloc)?;
-    let problem = problem(alloc, rules, "?X rX")?;
-    let store = alone(alloc, &mut space, &problem, budget)?;
-    Ok(store.is_finished() && has_rows(alloc, &store, rows)?)
+    let mut space = room(rt, alloc);
+    sure(rt, alone(alloc, &mut space, problem, budget))
 }
 
 #[test]
-fn without_rules_the_query_is_all(rt: HostRuntime) -> Result<(), Fail> {
-    holds(&rt, ends_with(rt.alloc(), &[], 1, &["?X rX"])?);
-    Ok(())
+fn without_rules_the_query_is_all(rt: HostRuntime) {
+    let problem = asked_under(&rt, rt.alloc(), &[]);
+    let store = rewritten(&rt, rt.alloc(), &problem, 1);
+    holds(&rt, store.is_finished());
+    assert_rows(&rt, rt.alloc(), &store, &["?X rX"]);
 }
 
 #[test]
-fn a_chain_of_rules_is_rewritten_to_its_end(rt: HostRuntime) -> Result<(), Fail> {
-    let rules = ["rX <- qX", "qX <- pX"];
-    holds(
-        &rt,
-        ends_with(rt.alloc(), &rules, 3, &["?X rX", "?X qX", "?X pX"])?,
-    );
-    Ok(())
+fn a_chain_of_rules_is_rewritten_to_its_end(rt: HostRuntime) {
+    let problem = asked_under(&rt, rt.alloc(), &["rX <- qX", "qX <- pX"]);
+    let store = rewritten(&rt, rt.alloc(), &problem, 3);
+    holds(&rt, store.is_finished());
+    assert_rows(&rt, rt.alloc(), &store, &["?X rX", "?X qX", "?X pX"]);
 }
 
-/// Whether the store is cut at its rows, and the query of the text is left.
-fn leaves(alloc: Global, store: &Store, text: &str) -> Result<bool, Fail> {
-    let wanted = query(alloc, text)?;
+/// Whether the store is cut at its rows, and this query is left.
+fn leaves(store: &Store, wanted: &Query) -> bool {
     match store.cut() {
-        Some(Cut::Rows { left }) => Ok(left.same(&wanted)),
-        _ => Ok(false),
+        Some(Cut::Rows { left }) => left.same(wanted),
+        _ => false,
     }
 }
 
-/// Whether a rewriting of at most two rows has just these, and leaves the query of the text.
-fn is_cut_with(alloc: Global, rules: &[&str], rows: &[&str], left: &str) -> Result<bool, Fail> {
-    let mut space = HomSpace::new(alloc)?;
-    let problem = problem(alloc, rules, "?X rX")?;
-    let store = alone(alloc, &mut space, &problem, 2)?;
-    Ok(has_rows(alloc, &store, rows)? && leaves(alloc, &store, left)?)
-}
-
 #[test]
-fn a_small_budget_cuts_a_chain(rt: HostRuntime) -> Result<(), Fail> {
-    let rules = ["rX <- qX", "qX <- pX"];
-    holds(
-        &rt,
-        is_cut_with(rt.alloc(), &rules, &["?X rX", "?X qX"], "?X pX")?,
-    );
-    Ok(())
+fn a_small_budget_cuts_a_chain(rt: HostRuntime) {
+    let problem = asked_under(&rt, rt.alloc(), &["rX <- qX", "qX <- pX"]);
+    let store = rewritten(&rt, rt.alloc(), &problem, 2);
+    assert_rows(&rt, rt.alloc(), &store, &["?X rX", "?X qX"]);
+    holds(&rt, leaves(&store, &asked(&rt, rt.alloc(), "?X pX")));
 }
