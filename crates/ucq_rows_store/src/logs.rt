@@ -18,13 +18,8 @@ fn fresh(rt: &impl Abort, alloc: Global) -> Log {
 }
 
 /// The entry of the row and the query of the text.
-<<<<<<< HEAD
-fn added<R: Wait>(rt: &R, alloc: Global, log: &Log, row: u32, text: &str) -> Result<Entry, Fail>
-    ensures { IfOk result (λ e. IsEntryOf log.now e) }
-=======
 fn added<R: Wait + Abort>(rt: &R, alloc: Global, log: &Log, row: u32, text: &str) -> Entry
-    ensures { IsOf log.now result }
->>>>>>> ce34509e03cabbaffd39f8c6afc0a03eda898edc
+    ensures { IsEntryOf log.now result }
 {
     match log.add(rt, row, asked(rt, alloc, text)) {
         Ok(entry) => entry,
@@ -68,64 +63,6 @@ fn seen(
             place: entry.place(),
             same: log.value(&entry).same(&asked(rt, alloc, texts.1)),
         }),
-<<<<<<< HEAD
-        None => None,
-    })
-}
-
-#[test]
-fn own_entries_are_seen_first(rt: HostRuntime) -> Result<(), Fail> {
-    let log = Log::new(rt.alloc())?;
-    let own = [added(&rt, rt.alloc(), &log, 1, "? pX")?];
-    let found = seen(rt.alloc(), &log, &own, "? pa", "? pX")?;
-    equal(&rt, found, Some(Found::Own { place: 0 }), "pa");
-    equal(
-        &rt,
-        seen(rt.alloc(), &log, &own, "? qa", "? pX")?,
-        None,
-        "qa",
-    );
-    Ok(())
-}
-
-#[test]
-fn other_entries_are_found(rt: HostRuntime) -> Result<(), Fail> {
-    let log = Log::new(rt.alloc())?;
-    added(&rt, rt.alloc(), &log, 1, "? pX")?;
-    let found = seen(rt.alloc(), &log, &[], "? pa", "? pX")?;
-    equal(&rt, found, other(1, 0), "pa");
-    equal(
-        &rt,
-        seen(rt.alloc(), &log, &[], "? qa", "? pX")?,
-        None,
-        "qa",
-    );
-    Ok(())
-}
-
-#[test]
-fn the_newest_is_found(rt: HostRuntime) -> Result<(), Fail> {
-    let log = Log::new(rt.alloc())?;
-    added(&rt, rt.alloc(), &log, 1, "? pX")?;
-    added(&rt, rt.alloc(), &log, 2, "? pX")?;
-    let own = [added(&rt, rt.alloc(), &log, 3, "? qX")?];
-    let found = seen(rt.alloc(), &log, &own, "? pa", "? pX")?;
-    equal(&rt, found, other(2, 1), "pa");
-    Ok(())
-}
-
-/// The entry of the row and the query, as it was added and as it is found.
-fn twice<R: Wait>(rt: &R, alloc: Global, log: &Log) -> Result<(Entry, Entry), Fail>
-    ensures added { IfOk result (λ r. IsEntryOf log.now r.0) }
-    ensures found { IfOk result (λ r. IsEntryOf log.now r.1) }
-{
-    let mut space = HomSpace::new(alloc)?;
-    let entry = added(rt, alloc, log, 1, "? pX")?;
-    match log.seen(&mut space, &[], &query(alloc, "? pa")?) {
-        Some(Seen::Other { entry: other }) => Ok((entry, other)),
-        _ => Err("not found")?,
-=======
->>>>>>> ce34509e03cabbaffd39f8c6afc0a03eda898edc
     }
 }
 
@@ -161,7 +98,7 @@ fn the_newest_is_found(rt: HostRuntime) {
 
 /// The entry of another that is seen of the text.
 fn seen_of_another(rt: &impl Abort, alloc: Global, log: &Log, text: &str) -> Entry
-    ensures { IsOf log.now result }
+    ensures { IsEntryOf log.now result }
 {
     let mut space = room(rt, alloc);
     match log.seen(&mut space, &[], &asked(rt, alloc, text)) {
@@ -200,20 +137,9 @@ fn added_by_two<R: Threads + Wait + Sync>(
     )
 }
 
-<<<<<<< HEAD
-/// The row of the entry, and whether its query is that of the text.
-fn told(
-    alloc: Global,
-    log: &Log,
-    entry: &Result<Entry, Unkept>,
-    text: &str,
-) -> Result<Option<(u32, bool)>, Fail>
-    requires { IfOk entry.now (λ e. IsEntryOf log.now e) }
-=======
 /// The row of the entry, and whether its query is the given one.
 fn told(log: &Log, entry: &Result<Entry, Unkept>, wanted: &Query) -> Option<(u32, bool)>
-    requires { IfOk entry.now (λ e. IsOf log.now e) }
->>>>>>> ce34509e03cabbaffd39f8c6afc0a03eda898edc
+    requires { IfOk entry.now (λ e. IsEntryOf log.now e) }
 {
     match entry {
         Ok(entry) => Some((log.row(entry), log.value(entry).same(wanted))),
