@@ -17,7 +17,7 @@ fn opened(rt: &impl Abort, alloc: Global, rows: u32, seats: u32) -> (Board, Seat
     requires some { 1 ≤ seats }
     requires seats { seats ≤ 128 }
     ensures board { (result.0.rows ≡ rows) × (result.0.seats ≡ seats) }
-    ensures seat { IsOf result.0 result.1 }
+    ensures seat { IsSeatOf result.0 result.1 }
     ensures view { result.1.view ≡ fresh (record { rows = rows; seats = seats }) }
 {
     match Board::new(alloc, rows, seats) {
