@@ -1,5 +1,6 @@
 pub mod Pruned
 pub mod Words
+pub mod Among
 pub mod Links
 pub mod Listed
 pub mod Indexed

@@ -1,11 +1,11 @@
 -- Rows stay in their chains where one is added.
-use Rattle.std.proofs.Common.{◌≡◌, ℕ, zero, suc, ◌+◌, ◌*◌, ◌/◌, ◌%◌, ◌<◌, ◌≤◌, ◌⊎◌, inl, inr, refl, sym, ap, ◌∙◌, List, [], ◌∷◌, ◌++◌, length, get_or, arith, subst}
+use Rattle.std.proofs.Common.{◌≡◌, ◌≢◌, ℕ, zero, suc, ◌+◌, ◌*◌, ◌/◌, ◌%◌, ◌<◌, ◌≤◌, ◌⊎◌, inl, inr, refl, sym, ap, ◌∙◌, List, [], ◌∷◌, ◌++◌, length, get_or, arith, subst}
 use Rattle.std.specs.Prelude.{bit_and}
 use Rattle.std.specs.Int.{bit_at}
 use Rattle.std.proofs.Math.ListN.{set, replicate}
 use Rattle.std.proofs.lemmas.Bool.{cases_eq}
 use Rattle.std.proofs.lemmas.List.{get_or_append_left, get_or_at, get_or_past, get_or-replicate, length-replicate, length-append, length-set, get_or-set_same, get_or-set_other}
-use Rattle.ucq_antichain.specs.inner.Chains.{follow, Reaches, Keeps, AreChains}
+use Rattle.ucq_antichain.specs.inner.Chains.{follow, Reaches, Keeps, KeepsBut, AreChains}
 use Rattle.ucq_antichain.proofs.Words.{and_both, cases_below}
 
 -- the links of a list that fall
@@ -169,3 +169,112 @@ none_chained heads next filled keys marks h n f many few = record {
 
     none : (i : ℕ) → get_or heads i 0 ≡ 0
     none i = subst (λ (xs : List ℕ). get_or xs i 0 ≡ 0) (sym h) (zeros keys i)
+
+one_more : (next : List ℕ) (from to : ℕ) → Reaches next (get_or next from 0) to → Reaches next from to
+one_more next from to r = record { steps = suc r.steps; there = r.there }
+
+-- a link is taken out that follows another
+module _ (heads next filled : List ℕ) (before link : ℕ) (c : AreChains heads next filled) (some : 0 < link) (above : link < before) (inside : before < length next) (follows : get_or next before 0 ≡ link) where
+  abbrev short : List ℕ
+  short = set next before (get_or next link 0)
+
+  skips : get_or short before 0 ≡ get_or next link 0
+  skips = get_or-set_same next before (get_or next link 0) 0 inside
+
+  keeps : (l : ℕ) → l ≢ before → get_or short l 0 ≡ get_or next l 0
+  keeps l ne = get_or-set_other next before l (get_or next link 0) 0 ne
+
+  passed : (from to steps : ℕ) → to ≢ link → follow next from steps ≡ to → Reaches short from to
+  passed from to zero other there = record { steps = zero; there = there }
+  passed from to (suc zero) other there = elim (cases_eq from before) [
+    | inl e ↦ absurd (other (sym there ∙ ap (λ (l : ℕ). get_or next l 0) e ∙ follows))
+    | inr ne ↦ record { steps = suc zero; there = keeps from ne ∙ there }
+  ]
+  passed from to (suc (suc steps)) other there = elim (cases_eq from before) [
+    | inl e ↦
+        let on : get_or next (get_or next from 0) 0 ≡ get_or short from 0 =
+        ap (λ (l : ℕ). get_or next l 0) (ap (λ (l : ℕ). get_or next l 0) e ∙ follows) ∙ sym skips ∙ ap (λ (l : ℕ). get_or short l 0) (sym e) in
+        one_more short from to (subst (λ (l : ℕ). Reaches short l to) on (passed (get_or next (get_or next from 0) 0) to steps other there))
+    | inr ne ↦ one_more short from to (subst (λ (l : ℕ). Reaches short l to) (sym (keeps from ne)) (passed (get_or next from 0) to (suc steps) other there))
+  ]
+
+  pub KeepsBut-passed : (room : ℕ) → KeepsBut (record { heads = heads; next = next; room = room }) (record { heads = heads; next = short; room = room }) link
+  KeepsBut-passed room = record { each = λ key row other r. passed (get_or heads key 0) (row + 1) r.steps other r.there }
+
+  falls_still : (l : ℕ) → 0 < l → l < length short → get_or short l 0 < l
+  falls_still l positive below = elim (cases_eq l before) [
+    | inl e ↦ subst (λ (i : ℕ). get_or short i 0 < i) (sym e) (let d = c.falls link some (omega (arith, above, inside)) in omega (arith, skips, d, above))
+    | inr ne ↦ let d = c.falls l positive (omega (arith, below, length-set next before (get_or next link 0))) in omega (arith, keeps l ne, d)
+  ]
+
+  pub AreChains-passed : AreChains heads short filled
+  AreChains-passed = record {
+    count = c.count;
+    sets = c.sets;
+    begun = let b = c.begun in omega (arith, length-set next before (get_or next link 0), b);
+    ends = keeps 0 (λ e. omega (arith, e, above)) ∙ c.ends;
+    falls = falls_still;
+    within = λ key. let w = c.within key in omega (arith, length-set next before (get_or next link 0), w);
+    noted = c.noted;
+  }
+
+-- a link is taken out that is the first of a chain
+module _ (heads next filled : List ℕ) (key link : ℕ) (c : AreChains heads next filled) (some : 0 < link) (inside : link < length next) (low : key ≤ 16384) (first : get_or heads key 0 ≡ link) where
+  abbrev rest : List ℕ
+  rest = set heads key (get_or next link 0)
+
+  begins : get_or rest key 0 ≡ get_or next link 0
+  begins = get_or-set_same heads key (get_or next link 0) 0 (let n = c.count in omega (arith, n, low))
+
+  others : (k : ℕ) → k ≢ key → get_or rest k 0 ≡ get_or heads k 0
+  others k ne = get_or-set_other heads key k (get_or next link 0) 0 ne
+
+  pub KeepsBut-first : (room : ℕ) → KeepsBut (record { heads = heads; next = next; room = room }) (record { heads = rest; next = next; room = room }) link
+  KeepsBut-first room = record {
+    each = λ k row other r. elim (cases_eq k key) [
+      | inl e ↦
+          let at : get_or heads k 0 ≡ link = ap (λ (i : ℕ). get_or heads i 0) e ∙ first in
+          let on : get_or next (get_or heads k 0) 0 ≡ get_or rest k 0 = ap (λ (l : ℕ). get_or next l 0) at ∙ sym begins ∙ ap (λ (i : ℕ). get_or rest i 0) (sym e) in
+          elim (reach_cases next (get_or heads k 0) (row + 1) r) [
+            | inl is ↦ absurd (other (sym is ∙ at))
+            | inr more ↦ subst (λ (l : ℕ). Reaches next l (row + 1)) on more
+          ]
+      | inr ne ↦ subst (λ (l : ℕ). Reaches next l (row + 1)) (sym (others k ne)) r
+    ];
+  }
+
+  -- the chains are noted by the same or by other marks
+  by_marks : (marks : List ℕ) → length marks ≡ 129 → ((i j : ℕ) → i < 128 → j < 128 → get_or rest (128 * i + j) 0 ≢ 0 → bit_at (get_or filled i 0) j ≡ 1 → bit_at (get_or marks i 0) j ≡ 1) →
+      AreChains rest next marks
+  by_marks marks sets stays = record {
+    count = length-set heads key (get_or next link 0) ∙ c.count;
+    sets = sets;
+    begun = c.begun;
+    ends = c.ends;
+    falls = c.falls;
+    within = λ k. elim (cases_eq k key) [
+      | inl e ↦ subst (λ (i : ℕ). get_or rest i 0 < length next) (sym e) (let d = c.falls link some inside in omega (arith, begins, d, inside))
+      | inr ne ↦ let w = c.within k in omega (arith, others k ne, w)
+    ];
+    noted = λ i j l m not_end. stays i j l m not_end (c.noted i j l m (had i j not_end));
+  }
+    where
+      had : (i j : ℕ) → get_or rest (128 * i + j) 0 ≢ 0 → get_or heads (128 * i + j) 0 ≢ 0
+      had i j not_end none = elim (cases_eq (128 * i + j) key) [
+        | inl e ↦ let is : get_or heads (128 * i + j) 0 ≡ link = ap (λ (k : ℕ). get_or heads k 0) e ∙ first in omega (arith, is, none, some)
+        | inr ne ↦ not_end (others (128 * i + j) ne ∙ none)
+      ]
+
+  pub AreChains-first : AreChains rest next filled
+  AreChains-first = by_marks filled c.sets (λ i j l m not_end bit. bit)
+
+  pub AreChains-emptied : (place mark marks : ℕ) → get_or next link 0 ≡ 0 → place ≡ key / 128 → mark ≡ key % 128 →
+      ((i : ℕ) → i < 128 → i ≢ mark → bit_at marks i ≡ bit_at (get_or filled place 0) i) → AreChains rest next (set filled place marks)
+  AreChains-emptied place mark marks empty at is same = by_marks (set filled place marks) (length-set filled place marks ∙ c.sets) (λ i j l m not_end bit. elim (cases_eq i place) [
+    | inl e ↦
+        let other : j ≢ mark = λ f. not_end (ap (λ (k : ℕ). get_or rest k 0) (let whole : 128 * i + j ≡ key = omega (arith, e, f, at, is) in whole) ∙ begins ∙ empty) in
+        let here : get_or (set filled place marks) i 0 ≡ marks =
+        subst (λ (k : ℕ). get_or (set filled place marks) k 0 ≡ marks) (sym e) (get_or-set_same filled place marks 0 (let size = c.sets in omega (arith, size, e, l))) in
+        subst (λ (n : ℕ). bit_at n j ≡ 1) (sym here) (same j m other ∙ subst (λ (k : ℕ). bit_at (get_or filled k 0) j ≡ 1) e bit)
+    | inr ne ↦ subst (λ (n : ℕ). bit_at n j ≡ 1) (sym (get_or-set_other filled place i marks 0 ne)) bit
+  ])

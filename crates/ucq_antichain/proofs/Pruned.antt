@@ -7,7 +7,7 @@ use Rattle.std.proofs.lemmas.List.Sums.{sum_by-append, sum_by-set, count_by-le-l
 use Rattle.ucq_terms.specs.Syntax.{Query}
 use Rattle.ucq_terms.specs.Homomorphism.{Covers}
 use Rattle.ucq_antichain.specs.declared.Row.{Row}
-use Rattle.ucq_antichain.specs.Rows.{no_row, row_at, query_at, IsAdded, SomeLiveCovers, live_count}
+use Rattle.ucq_antichain.specs.Rows.{no_row, row_at, query_at, IsLiveAt, IsAdded, SomeLiveCovers, live_count}
 use Rattle.ucq_antichain.specs.Calls.{MayDie, IsPruned, AddsRow}
 use Rattle.ucq_antichain.specs.inner.Walks.{NoneCovered, DiesAt, IsPrunedFrom}
 use Rattle.ucq_antichain.proofs.Words.{cases_below}
@@ -25,6 +25,10 @@ pruned_live q old false now (same, none) alive = inr (none alive, ap (λ (r : Ro
 pruned_dead : (q : Query) (old : Row) (b : Bool) (now : Row) → MayDie q old b now → ¬ (old.live ≡ true) → ¬ (now.live ≡ true)
 pruned_dead q old true now (live, covers, same) dead e = dead live
 pruned_dead q old false now (same, none) dead e = dead (sym (ap (λ (r : Row). r.live) same) ∙ e)
+
+still_live : (q : Query) (old : Row) (b : Bool) (now : Row) → MayDie q old b now → now.live ≡ true → old.live ≡ true
+still_live q old true now (live, covers, same) alive = live
+still_live q old false now (same, none) alive = sym (ap (λ (r : Row). r.live) same) ∙ alive
 
 -- a row that was looked at twice
 may_twice : (q : Query) (old mid now : Row) (b c : Bool) → MayDie q old b mid → MayDie q mid c now → (d : Bool) × MayDie q old d now
@@ -121,6 +125,23 @@ queries_stay q before now from to pruned row h = elim (cases_below row from) [
     | inr past ↦ ap (λ (r : Row). r.query) (h.outside row (inr past))
   ]
 ]
+
+-- what is live was live
+pub was_live : (q : Query) (before now : List Row) (from to pruned row : ℕ) → IsPrunedFrom q before now from to pruned → IsLiveAt now row → IsLiveAt before row
+was_live q before now from to pruned row h alive = elim (cases_below row from) [
+  | inl b ↦ sym (ap (λ (r : Row). r.live) (h.outside row (inl b))) ∙ alive
+  | inr a ↦ elim (cases_below row to) [
+    | inl b ↦ let (c, may) = h.between row a b in still_live q (row_at before row) c (row_at now row) may alive
+    | inr past ↦ sym (ap (λ (r : Row). r.live) (h.outside row (inr past))) ∙ alive
+  ]
+]
+
+-- so what covers no live row still covers none
+pub none_still : (q : Query) (before now : List Row) (from to pruned low high : ℕ) → IsPrunedFrom q before now from to pruned → NoneCovered before q low high → NoneCovered now q low high
+none_still q before now from to pruned low high h n = record {
+  none = λ row l m alive covers.
+      n.none row l m (was_live q before now from to pruned row h alive) (subst (Covers q) (queries_stay q before now from to pruned row h) covers);
+}
 
 pub query_stays : (q : Query) (before now : List Row) (place row : ℕ) (b : Bool) → DiesAt q before now place b → query_at now row ≡ query_at before row
 query_stays q before now place row b d = elim (cases_eq row place) [

@@ -1,5 +1,5 @@
 -- Rows are looked for in chains, and in words and groups of words.
-use Rattle.std.proofs.Common.{◌≡◌, ℕ, zero, suc, ◌+◌, ◌*◌, ◌/◌, ◌%◌, ◌<◌, ◌≤◌, ◌⊎◌, inl, inr, sym, ap, ◌∙◌, List, [], ◌∷◌, ◌++◌, true, false, length, get_or, arith, subst}
+use Rattle.std.proofs.Common.{◌≡◌, ◌≢◌, ℕ, zero, suc, ◌+◌, ◌*◌, ◌/◌, ◌%◌, ◌<◌, ◌≤◌, ◌⊎◌, inl, inr, sym, ap, ◌∙◌, List, [], ◌∷◌, ◌++◌, Bool, true, false, length, get_or, arith, subst}
 use Rattle.std.specs.Int.{bit_at}
 use Rattle.std.proofs.lemmas.Bool.{cases_eq}
 use Rattle.std.proofs.lemmas.Nat.Bits.{bit_at-lt}
@@ -10,13 +10,14 @@ use Rattle.ucq_hom.specs.Signature.{Marks, signature_of, IsPartOf}
 use Rattle.ucq_hom.proofs.Signatures.{first_part, covers_part}
 use Rattle.ucq_antichain.specs.declared.Row.{Row}
 use Rattle.ucq_antichain.specs.Rows.{no_row, row_at, query_at, IsLiveAt, SomeLiveCovers, IsFirstCover}
-use Rattle.ucq_antichain.specs.inner.Sets.{IsListOf}
+use Rattle.ucq_antichain.specs.Calls.{MayDie}
+use Rattle.ucq_antichain.specs.inner.Sets.{IsListOf, IsAmong}
 use Rattle.ucq_antichain.specs.inner.Chains.{Chained, Reaches, IsInChain}
 use Rattle.ucq_antichain.specs.inner.Index.{Indexed, no_marks, signature_at, IsKeyOf, AreChainsOf}
-use Rattle.ucq_antichain.specs.inner.Walks.{IsIndexOf, IsBest, NoneEarlier, NoneBeside, NoneCovered}
+use Rattle.ucq_antichain.specs.inner.Walks.{IsIndexOf, IsBest, NoneEarlier, NoneBeside, NoneCovered, DiesAt}
 use Rattle.ucq_antichain.proofs.Words.{cases_below}
 use Rattle.ucq_antichain.proofs.Links.{reach_cases, none_after_end}
-use Rattle.ucq_antichain.proofs.Pruned.{with_last}
+use Rattle.ucq_antichain.proofs.Pruned.{with_last, query_stays}
 
 -- a live row is there
 pub live_inside : (rows : List Row) (row : ℕ) → IsLiveAt rows row → row < length rows
@@ -96,7 +97,7 @@ key_kept m n key p s (inr (first, low, bit, beside)) =
 
 -- so the best of all chains of the query is the first live row that covers it
 module _ (index : Indexed) (rows : List Row) (q : Query) (m : Marks) (list : List ℕ) (best : ℕ) (i : IsIndexOf index rows) (is : m ≡ signature_of q) (l : IsListOf list m.first)
-    (chained : AreChainsOf index.chains index.signatures) (pair_less : NoneEarlier rows q index.chains (get_or index.chains.heads 16384 0) best)
+    (chained : AreChainsOf index.chains index.signatures index.kept) (pair_less : NoneEarlier rows q index.chains (get_or index.chains.heads 16384 0) best)
     (each : (k : ℕ) → k < length list → NoneBeside rows q index.chains m.second (get_or list k 0) best) where
   by_key : (row key : ℕ) → IsKeyOf m key → IsInChain index.chains key row → IsLiveAt rows row → Covers (query_at rows row) q → best ≤ row
   by_key row key (inl e) among live covers = pair_less.none row (subst (λ (k : ℕ). IsInChain index.chains k row) e among) live covers
@@ -108,7 +109,7 @@ module _ (index : Indexed) (rows : List Row) (q : Query) (m : Marks) (list : Lis
   pub first_of_all : (row : ℕ) → IsLiveAt rows row → Covers (query_at rows row) q → best ≤ row
   first_of_all row live covers =
       let inside : row < length rows = live_inside rows row live in
-      let has = chained.keyed row (let s = i.size in omega (arith, inside, s)) in
+      let has = chained.keyed row (let s = i.size in omega (arith, inside, s)) (i.kept row live) in
       let own = subst (λ (s : Marks). IsKeyOf s has.key) (i.each row inside) has.own in
       let kept = key_kept (signature_of (query_at rows row)) (signature_of q) has.key (first_part (query_at rows row) q covers) (covers_part 127 (query_at rows row) q covers) own in
       by_key row has.key (subst (λ (s : Marks). IsKeyOf s has.key) (sym is) kept) has.among live covers
@@ -130,40 +131,69 @@ module _ (index : Indexed) (rows : List Row) (q : Query) (m : Marks) (i : IsInde
       subst (λ (s : Marks). IsPartOf m.first s.first) (sym (i.each row inside)) (subst (λ (s : Marks). IsPartOf s.first (signature_of (query_at rows row)).first) (sym is) (first_part q (query_at rows row) covers))
 
   -- of the rows from one bit of a word to another
-  pub none_in_word : (word bits from to : ℕ) → to ≤ 64 → ((row : ℕ) → row < length index.signatures → row / 64 ≡ word → IsPartOf m.first (signature_at index.signatures row).first → bit_at bits (row % 64) ≡ 1) →
+  pub none_in_word : (word bits from to : ℕ) → to ≤ 64 → ((row : ℕ) → row < length index.signatures → IsAmong index.kept row → row / 64 ≡ word → IsPartOf m.first (signature_at index.signatures row).first → bit_at bits (row % 64) ≡ 1) →
       ((j : ℕ) → from ≤ j → j < to → bit_at bits j ≡ 0) → NoneCovered rows q (64 * word + from) (64 * word + to)
   none_in_word word bits from to high all unset = record {
     none = λ row l n live covers.
         let inside : row < length rows = live_inside rows row live in
-        let set = all row (let s = i.size in omega (arith, inside, s)) (omega (arith, l, n, high)) (covered_part row inside covers) in
+        let set = all row (let s = i.size in omega (arith, inside, s)) (i.kept row live) (omega (arith, l, n, high)) (covered_part row inside covers) in
         let none = unset (row % 64) (omega (arith, l, n, high)) (omega (arith, l, n, high)) in
         omega (arith, set, none);
   }
 
   -- of the rows from one word of a group to another
-  pub none_in_group : (group bits from to : ℕ) → to ≤ 64 → ((row : ℕ) → row < length index.signatures → row / 4096 ≡ group → IsPartOf m.first (signature_at index.signatures row).first → bit_at bits (row / 64 % 64) ≡ 1) →
+  pub none_in_group : (group bits from to : ℕ) → to ≤ 64 → ((row : ℕ) → row < length index.signatures → IsAmong index.kept row → row / 4096 ≡ group → IsPartOf m.first (signature_at index.signatures row).first → bit_at bits (row / 64 % 64) ≡ 1) →
       ((j : ℕ) → from ≤ j → j < to → bit_at bits j ≡ 0) → NoneCovered rows q (64 * (64 * group + from)) (64 * (64 * group + to))
   none_in_group group bits from to high all unset = record {
     none = λ row l n live covers.
         let inside : row < length rows = live_inside rows row live in
-        let set = all row (let s = i.size in omega (arith, inside, s)) (omega (arith, l, n, high)) (covered_part row inside covers) in
+        let set = all row (let s = i.size in omega (arith, inside, s)) (i.kept row live) (omega (arith, l, n, high)) (covered_part row inside covers) in
         let none = unset (row / 64 % 64) (omega (arith, l, n, high)) (omega (arith, l, n, high)) in
         omega (arith, set, none);
   }
 
--- the index is that of the rows after some died, and after one was added
-pub IsIndexOf-pruned : (index : Indexed) (before after : List Row) → length after ≡ length before → ((row : ℕ) → row < length before → query_at after row ≡ query_at before row) →
-    IsIndexOf index before → IsIndexOf index after
-IsIndexOf-pruned index before after count same i = record {
-  size = i.size ∙ sym count;
-  each = λ row l. let m : row < length before = omega (arith, l, count) in i.each row m ∙ ap signature_of (sym (same row m));
-}
+-- the index is that of the rows after one died, and after one was added
+module _ (index after : Indexed) (q : Query) (before now : List Row) (place : ℕ) (b : Bool) (i : IsIndexOf index before) (d : DiesAt q before now place b) (same : after.signatures ≡ index.signatures) where
+  changed : ((row : ℕ) → IsLiveAt now row → IsAmong after.kept row) → IsIndexOf after now
+  changed kept = record {
+    size = ap (λ (ms : List Marks). length ms) same ∙ i.size ∙ sym d.count;
+    each = λ row l.
+        let m : row < length before = let e = d.count in omega (arith, l, e) in
+        ap (λ (ms : List Marks). signature_at ms row) same ∙ i.each row m ∙ ap signature_of (sym (query_stays q before now place row b d));
+    kept = kept;
+  }
+
+  elsewhere : (row : ℕ) → row ≢ place → IsLiveAt now row → IsAmong index.kept row
+  elsewhere row ne live = i.kept row (subst (λ (r : Row). r.live ≡ true) (d.others row ne) live)
+
+  pub IsIndexOf-died : b ≡ true → ((row : ℕ) → row ≢ place → IsAmong index.kept row → IsAmong after.kept row) → IsIndexOf after now
+  IsIndexOf-died dies others = changed (λ row live. let ne : row ≢ place = λ e. dead (subst (IsLiveAt now) e live) in others row ne (elsewhere row ne live))
+    where
+      dead : ¬ IsLiveAt now place
+      dead live = let (was, covers, is) = subst (λ (x : Bool). MayDie q (row_at before place) x (row_at now place)) dies d.here in let no : (row_at now place).live ≡ false = ap (λ (r : Row). r.live) is in cc
+
+  pub IsIndexOf-stays : b ≡ false → after.kept ≡ index.kept → IsIndexOf after now
+  IsIndexOf-stays stays kept = changed (λ row live. subst (λ (ks : List ℕ). IsAmong ks row) (sym kept) (elim (cases_eq row place) [
+    | inl e ↦ i.kept row (subst (λ (k : ℕ). IsLiveAt before k) (sym e) (was (subst (IsLiveAt now) e live)))
+    | inr ne ↦ elsewhere row ne live
+  ]))
+    where
+      was : IsLiveAt now place → IsLiveAt before place
+      was live = let (is, unless) = subst (λ (x : Bool). MayDie q (row_at before place) x (row_at now place)) stays d.here in subst (λ (r : Row). r.live ≡ true) is live
 
 pub IsIndexOf-added : (index : Indexed) (rows : List Row) (q : Query) (m : Marks) → IsIndexOf index rows → m ≡ signature_of q →
-    (after : Indexed) → after.signatures ≡ index.signatures ++ m ∷ [] → IsIndexOf after (with_last rows q)
-IsIndexOf-added index rows q m i is after e = record {
+    (after : Indexed) → after.signatures ≡ index.signatures ++ m ∷ [] → ((row : ℕ) → row ≡ length index.signatures → IsAmong after.kept row) →
+    ((row : ℕ) → IsAmong index.kept row → IsAmong after.kept row) → IsIndexOf after (with_last rows q)
+IsIndexOf-added index rows q m i is after e has others = record {
   size = ap (λ (ms : List Marks). length ms) e ∙ omega (arith, more, one, i.size);
   each = λ row l. ap (λ (ms : List Marks). signature_at ms row) e ∙ each row l;
+  kept = λ row live. elim (cases_eq row (length rows)) [
+    | inl e ↦ has row (e ∙ sym i.size)
+    | inr ne ↦
+        let inside : row < length rows = let l = live_inside (with_last rows q) row live in omega (arith, l, one, ne) in
+        let old : row_at (with_last rows q) row ≡ row_at rows row = get_or_append_left rows (record { query = q; live = true } ∷ []) no_row row inside in
+        others row (i.kept row (subst (λ (r : Row). r.live ≡ true) old live))
+  ];
 }
   where
     more : length (index.signatures ++ m ∷ []) ≡ length index.signatures + 1

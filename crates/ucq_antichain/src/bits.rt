@@ -1,13 +1,22 @@
 //! Bits of words.
-ghost use Rattle.std.specs.Prelude.{◌≡◌, ◌<◌, ◌≤◌, ℕ};
+ghost use Rattle.std.specs.Prelude.{◌≡◌, ◌≢◌, ◌<◌, ◌≤◌, ℕ};
 ghost use Rattle.std.specs.Int.{bit_at};
 
 pub(crate) fn with_bit(word: u64, bit: u32) -> u64
     requires { bit < 64 }
     ensures has { bit_at result bit ≡ 1 }
     ensures kept { (i : ℕ) → bit_at word i ≡ 1 → bit_at result i ≡ 1 }
+    ensures others { (i : ℕ) → i ≢ bit → bit_at result i ≡ bit_at word i }
 {
     word | 1 << bit
+}
+
+pub(crate) fn without_bit(word: u64, bit: u32) -> u64
+    requires { bit < 64 }
+    ensures gone { bit_at result bit ≡ 0 }
+    ensures others { (i : ℕ) → i < 64 → i ≢ bit → bit_at result i ≡ bit_at word i }
+{
+    word & !(1 << bit)
 }
 
 pub(crate) fn both(one: u64, other: u64) -> u64

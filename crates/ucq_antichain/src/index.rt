@@ -1,15 +1,17 @@
 //! Sets of rows by marks and chains of rows by pairs of marks, by which the rows are found that may cover a query or be covered
-//! by it.
-ghost use Rattle.std.specs.Prelude.{◌≡◌, ◌+◌, ◌*◌, ◌/◌, ◌%◌, ◌<◌, ◌≤◌, ◌++◌, ◌∷◌, [], ◌⊎◌, ℕ, length, slice_index, IfOk, vec_len};
+//! by it. A row that was taken out is passed over.
+ghost use Rattle.std.specs.Prelude.{◌≡◌, ◌≢◌, ◌+◌, ◌*◌, ◌/◌, ◌%◌, ◌<◌, ◌≤◌, ◌++◌, ◌∷◌, [], ◌⊎◌, ℕ, length, slice_index, IfOk, vec_len};
 ghost use Rattle.std.specs.Vec.{vec_capacity};
 ghost use Rattle.std.specs.Int.{bit_at};
 ghost use Rattle.ucq_hom.specs.Signature.{IsPartOf};
+ghost use Rattle.ucq_antichain.specs.inner.Sets.{IsAmong};
 ghost use Rattle.ucq_antichain.specs.inner.Index.{signature_at, IsKeyOf, AreChainsOf, IsKeyBeside};
 
 use crate::bits::next_bit;
 use crate::chains::{Chains, NO_PAIR, pair};
 use crate::marked::Marked;
 use crate::push_within;
+use crate::row_set::RowSet;
 use crate::row_sets::RowSets;
 use std::alloc::Global;
 use std::marker::Model;
@@ -17,7 +19,7 @@ use ucq_hom::Signature;
 use ucq_terms::NoMemory;
 
 /// The signatures of rows, in order, and the rows by their marks. Contracts see it as the signatures, how many groups of
-/// 4,096 rows there is room for, and the chains.
+/// 4,096 rows there is room for, which rows are kept, and the chains.
 #[derive(Drop)]
 pub struct Index {
     groups: usize,
@@ -26,7 +28,11 @@ pub struct Index {
     all: RowSets,
     // the words of these sets that have a row, by its marks
     words: RowSets,
-    // each row by one pair of its marks
+    // the rows that were not taken out
+    kept: RowSet,
+    // the words that have such a row
+    kept_words: RowSet,
+    // each of these rows by one pair of its marks
     chains: Chains,
     // how many rows have each pair
     counts: Vec<u16>,
@@ -40,10 +46,15 @@ impl Model for Index {
     ghost Value = { Indexed };
 
     ghost view = { λ i.
-        record { groups = i.groups; signatures = i.signatures.items; chains = i.chains } };
+        record {
+          groups = i.groups;
+          signatures = i.signatures.items;
+          kept = i.kept;
+          chains = i.chains;
+        } };
 
     ghost invariant = { λ i.
-        IsIndex i.groups i.signatures.items i.all i.words i.chains
+        IsIndex i.groups i.signatures.items i.all i.words i.kept i.kept_words i.chains
         × (4096 * i.groups ≤ vec_capacity i.signatures)
         × (4096 * i.groups < i.chains.room) };
 }
@@ -57,6 +68,8 @@ impl Index {
         let signatures = Vec::with_capacity(alloc, 4096 * groups)?;
         let all = RowSets::new(alloc, 64 * groups)?;
         let words = RowSets::new(alloc, groups)?;
+        let kept = RowSet::new(alloc, 64 * groups)?;
+        let kept_words = RowSet::new(alloc, groups)?;
         let chains = Chains::new(alloc, 4096 * groups)?;
         let counts = vec![in alloc; 0; NO_PAIR as usize]?;
         Ok(Index {
@@ -64,6 +77,8 @@ impl Index {
             signatures,
             all,
             words,
+            kept,
+            kept_words,
             chains,
             counts,
         })
@@ -91,6 +106,8 @@ impl Index {
         requires { length self.old.signatures < 4096 * self.old.groups }
         ensures groups { self.new.groups ≡ self.old.groups }
         ensures signatures { self.new.signatures ≡ self.old.signatures ++ marked.now ∷ [] }
+        ensures has { (row : ℕ) → row ≡ length self.old.signatures → IsAmong self.new.kept row }
+        ensures others { (row : ℕ) → IsAmong self.old.kept row → IsAmong self.new.kept row }
     {
         let row = self.signatures.len() as u32;
         let marks = marked.marks();
@@ -98,41 +115,63 @@ impl Index {
         let key = rarest(self.counts.as_slice(), marks, others);
         self.all.insert_all(marks, row);
         self.words.insert_all(marks, row / 64);
+        self.kept.insert(row);
+        self.kept_words.insert(row / 64);
         self.chains.push(key);
         count(&mut self.counts, marks, others);
         push_within(&mut self.signatures, *marked.signature());
     }
 
-    /// The chains, in which a row is under a key that each query has which it covers.
+    /// Takes a row out, so that nothing looks at it any more.
+    pub fn remove(&mut self, row: u32)
+        requires { row < length self.old.signatures }
+        ensures groups { self.new.groups ≡ self.old.groups }
+        ensures signatures { self.new.signatures ≡ self.old.signatures }
+        ensures others { (other : ℕ) →
+            other ≢ row →
+            IsAmong self.old.kept other →
+            IsAmong self.new.kept other }
+    {
+        self.chains.remove(row);
+        self.kept.remove(row);
+        if self.kept.word(row as usize / 64) == 0 {
+            self.kept_words.remove(row / 64);
+        }
+    }
+
+    /// The chains, in which a row that is kept is under a key that each query has which it covers.
     pub fn chains(&self) -> &Chains
         ensures chains { result.now ≡ self.now.chains }
-        ensures keyed { AreChainsOf self.now.chains self.now.signatures }
+        ensures keyed { AreChainsOf self.now.chains self.now.signatures self.now.kept }
     {
         &self.chains
     }
 
-    /// Of the 64 words of a group those with a row that a query may cover, as bits.
+    /// Of the 64 words of a group those with a row that is kept and that a query may cover, as bits.
     pub fn words(&self, marked: &Marked, group: usize) -> u64
         requires { group < self.now.groups }
         ensures { (row : ℕ) →
             row < length self.now.signatures →
+            IsAmong self.now.kept row →
             row / 4096 ≡ group →
             IsPartOf marked.now.first (signature_at self.now.signatures row).first →
             bit_at result (row / 64 % 64) ≡ 1 }
     {
-        self.words.common(marked.marks(), group)
+        self.words
+            .common(marked.marks(), group, self.kept_words.word(group))
     }
 
-    /// Of the 64 rows of a word those that a query may cover, as bits.
+    /// Of the 64 rows of a word those that are kept and that a query may cover, as bits.
     pub fn rows(&self, marked: &Marked, word: usize) -> u64
         requires { word < 64 * self.now.groups }
         ensures { (row : ℕ) →
             row < length self.now.signatures →
+            IsAmong self.now.kept row →
             row / 64 ≡ word →
             IsPartOf marked.now.first (signature_at self.now.signatures row).first →
             bit_at result (row % 64) ≡ 1 }
     {
-        self.all.common(marked.marks(), word)
+        self.all.common(marked.marks(), word, self.kept.word(word))
     }
 }
 

@@ -16,6 +16,7 @@ mod bits;
 mod chains;
 mod index;
 mod marked;
+mod row_set;
 mod row_sets;
 
 use bits::next_bit;
@@ -156,7 +157,7 @@ impl Antichain {
         let pruned = prune(
             space,
             self.rows.as_mut_slice(),
-            &self.index,
+            &mut self.index,
             &query,
             &marked,
         );
@@ -350,44 +351,52 @@ fn dies(
     found
 }
 
-// The same for the row at a place, if there is one.
+// The same for the row at a place, if there is one, which the index then keeps no longer.
 fn dies_at(
     space: &mut HomSpace,
     rows: &mut [Row],
-    index: &Index,
+    index: &mut Index,
     row: u32,
     query: &Query,
     marked: &Marked,
 ) -> bool
-    requires index { IsIndexOf index.now rows.old }
+    requires index { IsIndexOf index.old rows.old }
     requires marked { marked.now ≡ signature_of query.now }
     requires clear { IsClear space.old }
     ensures dies { DiesAt query.now rows.old rows.new row result }
+    ensures index { IsIndexOf index.new rows.new }
+    ensures groups { index.new.groups ≡ index.old.groups }
     ensures clear { IsClear space.new }
 {
     if row as usize >= rows.len() {
         return false;
     }
     let kept = &mut rows[row as usize];
-    dies(space, kept, index.signature(row), query, marked)
+    if !dies(space, kept, index.signature(row), query, marked) {
+        return false;
+    }
+    index.remove(row);
+    true
 }
 
 // Makes the live rows of a word of 64 dead that the query covers, and counts them.
 fn prune_word(
     space: &mut HomSpace,
     rows: &mut [Row],
-    index: &Index,
+    index: &mut Index,
     word: u32,
     query: &Query,
     marked: &Marked,
 ) -> u32
-    requires index { IsIndexOf index.now rows.old }
+    requires index { IsIndexOf index.old rows.old }
     requires marked { marked.now ≡ signature_of query.now }
     requires few { length rows.old ≤ ROWS }
     requires clear { IsClear space.old }
     requires low { word < 1024 }
-    requires word { word < 64 * index.now.groups }
+    requires word { word < 64 * index.old.groups }
     ensures pruned { IsPrunedFrom query.now rows.old rows.new (64 * word) (64 * word + 64) result }
+    ensures index { IsIndexOf index.new rows.new }
+    ensures groups { index.new.groups ≡ index.old.groups }
     ensures clear { IsClear space.new }
 {
     let among = index.rows(marked, word as usize) as u128;
@@ -406,19 +415,21 @@ fn prune_word(
 fn prune_group(
     space: &mut HomSpace,
     rows: &mut [Row],
-    index: &Index,
+    index: &mut Index,
     group: usize,
     query: &Query,
     marked: &Marked,
 ) -> u32
-    requires index { IsIndexOf index.now rows.old }
+    requires index { IsIndexOf index.old rows.old }
     requires marked { marked.now ≡ signature_of query.now }
     requires few { length rows.old ≤ ROWS }
     requires clear { IsClear space.old }
     requires low { group < 16 }
-    requires group { group < index.now.groups }
+    requires group { group < index.old.groups }
     ensures pruned { IsPrunedFrom query.now rows.old rows.new (4096 * group) (4096 * group + 4096)
         result }
+    ensures index { IsIndexOf index.new rows.new }
+    ensures groups { index.new.groups ≡ index.old.groups }
     ensures clear { IsClear space.new }
 {
     let among = index.words(marked, group) as u128;
@@ -435,15 +446,17 @@ fn prune_group(
 fn prune(
     space: &mut HomSpace,
     rows: &mut [Row],
-    index: &Index,
+    index: &mut Index,
     query: &Query,
     marked: &Marked,
 ) -> u32
-    requires index { IsIndexOf index.now rows.old }
+    requires index { IsIndexOf index.old rows.old }
     requires marked { marked.now ≡ signature_of query.now }
     requires few { length rows.old ≤ ROWS }
     requires clear { IsClear space.old }
     ensures pruned { IsPruned query.now rows.old rows.new result }
+    ensures index { IsIndexOf index.new rows.new }
+    ensures groups { index.new.groups ≡ index.old.groups }
     ensures clear { IsClear space.new }
 {
     let mut pruned = 0;

@@ -71,16 +71,17 @@ impl RowSets {
         }
     }
 
-    /// A word of what the sets of these marks have in common, which is every row where there is no mark.
-    pub fn common(&self, marks: &[u32], word: usize) -> u64
+    /// Of these rows of a word those that the sets of all these marks have.
+    pub fn common(&self, marks: &[u32], word: usize, among: u64) -> u64
         requires marks { (k : ℕ) → k < length marks.now → slice_index marks.now k < 128 }
         requires word { word < self.now.width }
         ensures { (r : ℕ) →
             r / 64 ≡ word →
+            bit_at among (r % 64) ≡ 1 →
             ((k : ℕ) → k < length marks.now → IsIn self.now (slice_index marks.now k) r) →
             bit_at result (r % 64) ≡ 1 }
     {
-        let mut rows = u64::MAX;
+        let mut rows = among;
         for mark in marks {
             if rows == 0 {
                 return 0;

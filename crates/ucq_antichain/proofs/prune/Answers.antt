@@ -1,7 +1,6 @@
-use Rattle.std.proofs.Common.{◌≡◌, ◌*◌, ◌+◌, ℕ, subst, arith}
+use Rattle.std.proofs.Common.{◌≡◌, ◌∙◌, ◌*◌, ◌+◌, ℕ, subst, arith}
 use Rattle.ucq_antichain.specs.inner.Walks.{IsPrunedFrom}
-use Rattle.ucq_antichain.proofs.Pruned.{pruned_further, queries_stay, all_pruned}
-use Rattle.ucq_antichain.proofs.Walked.{IsIndexOf-pruned}
+use Rattle.ucq_antichain.proofs.Pruned.{pruned_further, all_pruned}
 use Rattle.ucq_antichain.proofs.prune.Goals as goal
 
 pub returns-clause-pruned : goal.returns-clause-pruned
@@ -19,9 +18,8 @@ loop-group-preserved c =
     let e : from + 4096 ≡ 4096 * (c.loop-group.group + 1) = omega arith in
     record {
       clear = c.prune_group-pruned.ensures.clear;
-      index =
-          IsIndexOf-pruned c.args.index.now c.loop-group.rows after c.prune_group-pruned.ensures.pruned.count
-          (λ row l. queries_stay q c.loop-group.rows after from (from + 4096) n row c.prune_group-pruned.ensures.pruned) inv.index;
+      index = c.prune_group-pruned.ensures.index;
+      groups = c.prune_group-pruned.ensures.groups ∙ inv.groups;
       pruned =
           subst (λ (to : ℕ). IsPrunedFrom q c.args.rows.now after 0 to (c.loop-group.pruned + n)) e
           (pruned_further q c.args.rows.now c.loop-group.rows after 0 from (from + 4096) c.loop-group.pruned n (omega arith) (omega arith) inv.pruned c.prune_group-pruned.ensures.pruned);

@@ -1,8 +1,8 @@
-use Rattle.std.proofs.Common.{◌≡◌, ◌+◌, ◌*◌, ◌<◌, ◌≤◌, ℕ, subst, arith}
+use Rattle.std.proofs.Common.{◌≡◌, refl, ◌∙◌, ◌+◌, ◌*◌, ◌<◌, ◌≤◌, ℕ, subst, arith}
 use Rattle.std.specs.Prelude.{min}
 use Rattle.ucq_antichain.specs.inner.Walks.{IsPrunedFrom, NoneCovered}
-use Rattle.ucq_antichain.proofs.Pruned.{none_die, pruned_on, queries_stay}
-use Rattle.ucq_antichain.proofs.Walked.{none_in_group, IsIndexOf-pruned}
+use Rattle.ucq_antichain.proofs.Pruned.{none_die, none_still, pruned_on}
+use Rattle.ucq_antichain.proofs.Walked.{none_in_group}
 use Rattle.ucq_antichain.proofs.prune_group.Goals as goal
 
 pub loop-bit-init : goal.loop-bit-init
@@ -15,6 +15,7 @@ loop-bit-init c =
       clear = c.requires.clear;
       low = c.next_bit-bit.ensures.within;
       index = c.requires.index;
+      groups = refl;
       pruned =
           none_die q c.args.rows.now (64 * (64 * group)) (64 * (64 * group + to))
           (subst (λ (from : ℕ). NoneCovered c.args.rows.now q from (64 * (64 * group + to))) start
@@ -39,17 +40,20 @@ loop-bit-preserved c =
     let here : 64 * (64 * group + min bit 64) ≡ from = omega (arith, low) in
     let further : from + 64 ≡ past = omega arith in
     let beyond : bit + 1 ≤ next.result = next.ensures.from in
-    let index =
-    IsIndexOf-pruned c.args.index.now before after c.prune_word-pruned.ensures.pruned.count
-    (λ row l. queries_stay q before after from (from + 64) n row c.prune_word-pruned.ensures.pruned) inv.index in
+    let none : NoneCovered c.args.rows.now q past (64 * (64 * group + to)) =
+    none_in_group c.args.index.now c.args.rows.now q c.args.marked.now c.requires.index c.requires.marked group c.words-among.result (bit + 1) to (omega arith) c.words-among.ensures
+    (λ j l m. next.ensures.none j l (omega (arith, m))) in
+    let still =
+    none_still q before after from (from + 64) n past (64 * (64 * group + to)) c.prune_word-pruned.ensures.pruned
+    (none_still q c.args.rows.now before (64 * (64 * group)) (64 * (64 * group + min bit 64)) c.loop-bit.pruned past (64 * (64 * group + to)) inv.pruned none) in
     record {
       clear = c.prune_word-pruned.ensures.clear;
       low = next.ensures.within;
-      index = index;
+      index = c.prune_word-pruned.ensures.index;
+      groups = c.prune_word-pruned.ensures.groups ∙ inv.groups;
       pruned =
           pruned_on q c.args.rows.now before after (64 * (64 * group)) from past (64 * (64 * group + to)) c.loop-bit.pruned n (omega arith) (omega arith) (omega (arith, low, beyond))
           (subst (λ (t : ℕ). IsPrunedFrom q c.args.rows.now before (64 * (64 * group)) t c.loop-bit.pruned) here inv.pruned)
           (subst (λ (t : ℕ). IsPrunedFrom q before after from t n) further c.prune_word-pruned.ensures.pruned)
-          (none_in_group c.args.index.now after q c.args.marked.now index c.requires.marked group c.words-among.result (bit + 1) to (omega arith) c.words-among.ensures
-          (λ j l m. next.ensures.none j l (omega (arith, m))));
+          still;
     }

@@ -1,4 +1,4 @@
-use Rattle.std.proofs.Common.{◌*◌, ◌+◌, ◌≤◌, ◌-◌}
+use Rattle.std.proofs.Common.{◌≡◌, ◌*◌, ◌+◌, ◌≤◌, ◌-◌}
 use Rattle.std.specs.Prelude.{min}
 use Rattle.ucq_hom.specs.Space.{IsClear}
 use Rattle.ucq_antichain.specs.inner.Walks.{IsIndexOf, IsPrunedFrom}
@@ -9,6 +9,7 @@ invariant-loop-bit l = record {
   clear : IsClear l.space;
   low : l.bit ≤ 128;
   index : IsIndexOf l.index l.rows;
+  groups : l.index.groups ≡ l.initial.index.groups;
   pruned : IsPrunedFrom l.query l.initial.rows l.rows (64 * (64 * l.group)) (64 * (64 * l.group + min l.bit 64)) l.pruned;
 }
 

@@ -1,8 +1,8 @@
-use Rattle.std.proofs.Common.{◌≡◌, ◌+◌, ◌*◌, ◌<◌, ◌≤◌, ◌∙◌, sym, cond, add-zero, Bool, ℕ, true, false, subst, arith}
+use Rattle.std.proofs.Common.{◌≡◌, refl, ◌+◌, ◌*◌, ◌<◌, ◌≤◌, ◌∙◌, sym, cond, add-zero, Bool, ℕ, true, false, subst, arith}
 use Rattle.std.specs.Prelude.{min}
 use Rattle.ucq_antichain.specs.inner.Walks.{IsPrunedFrom, NoneCovered}
-use Rattle.ucq_antichain.proofs.Pruned.{none_die, one_dies, pruned_on, query_stays}
-use Rattle.ucq_antichain.proofs.Walked.{none_in_word, IsIndexOf-pruned}
+use Rattle.ucq_antichain.proofs.Pruned.{none_die, one_dies, none_still, pruned_on}
+use Rattle.ucq_antichain.proofs.Walked.{none_in_word}
 use Rattle.ucq_antichain.proofs.prune_word.Goals.{then-dies_at, else-dies_at}
 use Rattle.ucq_antichain.proofs.prune_word.Goals as goal
 
@@ -18,6 +18,7 @@ loop-bit-init c =
       clear = c.requires.clear;
       low = c.next_bit-bit.ensures.within;
       index = c.requires.index;
+      groups = refl;
       pruned =
           none_die q c.args.rows.now (64 * c.args.word) (64 * c.args.word + to)
           (subst (λ (from : ℕ). NoneCovered c.args.rows.now q from (64 * c.args.word + to)) start
@@ -42,19 +43,22 @@ loop-bit-preserved c =
       | then-dies_at w ↦ counted_one c.dies_at.result c.loop-bit.pruned c.if-dies_at.pruned true w.if-dies_at.true w.pruned-is
       | else-dies_at w ↦ counted_one c.dies_at.result c.loop-bit.pruned c.if-dies_at.pruned false w.if-dies_at.false (w.pruned-is ∙ sym (add-zero c.loop-bit.pruned))
     ] in
-    let index =
-    IsIndexOf-pruned c.args.index.now c.loop-bit.rows after c.dies_at.ensures.dies.count (λ row l. query_stays q c.loop-bit.rows after place row c.dies_at.result c.dies_at.ensures.dies) inv.index in
-    let none =
-    none_in_word c.args.index.now after q c.args.marked.now index c.requires.marked c.args.word c.rows-among.result (bit + 1) to (omega arith) c.rows-among.ensures
+    let past : ℕ = 64 * c.args.word + to in
+    let none : NoneCovered c.args.rows.now q (64 * c.args.word + (bit + 1)) past =
+    none_in_word c.args.index.now c.args.rows.now q c.args.marked.now c.requires.index c.requires.marked c.args.word c.rows-among.result (bit + 1) to (omega arith) c.rows-among.ensures
     (λ j l m. next.ensures.none j l (omega (arith, m))) in
+    let died = one_dies q c.loop-bit.rows after place (place + 1) c.dies_at.result (omega arith) c.dies_at.ensures.dies in
+    let still =
+    none_still q c.loop-bit.rows after place (place + 1) (cond c.dies_at.result 1 0) (64 * c.args.word + (bit + 1)) past died
+    (none_still q c.args.rows.now c.loop-bit.rows (64 * c.args.word) (64 * c.args.word + min bit 64) c.loop-bit.pruned (64 * c.args.word + (bit + 1)) past inv.pruned none) in
     record {
       clear = c.dies_at.ensures.clear;
       low = next.ensures.within;
-      index = index;
+      index = c.dies_at.ensures.index;
+      groups = c.dies_at.ensures.groups ∙ inv.groups;
       pruned =
           subst (IsPrunedFrom q c.args.rows.now after (64 * c.args.word) (64 * c.args.word + to)) (sym counted)
           (pruned_on q c.args.rows.now c.loop-bit.rows after (64 * c.args.word) place (place + 1) (64 * c.args.word + to) c.loop-bit.pruned (cond c.dies_at.result 1 0) (omega arith) (omega arith)
           (omega (arith, low, beyond)) (subst (λ (t : ℕ). IsPrunedFrom q c.args.rows.now c.loop-bit.rows (64 * c.args.word) t c.loop-bit.pruned) here inv.pruned)
-          (one_dies q c.loop-bit.rows after place (place + 1) c.dies_at.result (omega arith) c.dies_at.ensures.dies)
-          (subst (λ (from : ℕ). NoneCovered after q from (64 * c.args.word + to)) one none));
+          died (subst (λ (from : ℕ). NoneCovered after q from past) one still));
     }

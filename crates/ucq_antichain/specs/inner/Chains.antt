@@ -27,6 +27,10 @@ IsInChain chains key row = Reaches chains.next (slice_index chains.heads key) (r
 pub record Keeps (before after : Chained) : Type 0 where
   pub each : (key row : ℕ) → IsInChain before key row → IsInChain after key row
 
+-- so does each row but that of a link
+pub record KeepsBut (before after : Chained) (link : ℕ) : Type 0 where
+  pub each : (key row : ℕ) → row + 1 ≢ link → IsInChain before key row → IsInChain after key row
+
 -- Each link leads to an earlier one, and the last to the end. A chain of two marks with a row in it is noted.
 pub record AreChains (heads next filled : List ℕ) : Type 0 where
   pub count : length heads ≡ 16385

@@ -6,14 +6,16 @@ use Rattle.ucq_terms.specs.Homomorphism.{Covers}
 use Rattle.ucq_hom.specs.Signature.{signature_of}
 use Rattle.ucq_antichain.specs.declared.Row.{Row}
 use Rattle.ucq_antichain.specs.Rows.{row_at, query_at, IsLiveAt, live_count}
+use Rattle.ucq_antichain.specs.inner.Sets.{IsAmong}
 use Rattle.ucq_antichain.specs.inner.Chains.{Chained, Reaches}
 use Rattle.ucq_antichain.specs.inner.Index.{Indexed, signature_at}
 use Rattle.ucq_antichain.specs.Calls.{MayDie}
 
--- the index has the signature of each row's query
+-- the index has the signature of each row's query, and keeps each live row
 pub record IsIndexOf (index : Indexed) (rows : List Row) : Type 0 where
   pub size : length index.signatures ≡ length rows
   pub each : (row : ℕ) → row < length rows → signature_at index.signatures row ≡ signature_of (query_at rows row)
+  pub kept : (row : ℕ) → IsLiveAt rows row → IsAmong index.kept row
 
 -- it is the number of rows, or a live row that covers the query
 pub record IsBest (rows : List Row) (q : Query) (best : ℕ) : Type 0 where

@@ -6,7 +6,7 @@ use Rattle.ucq_antichain.specs.Rows.{AntichainValue, SomeLiveCovers}
 use Rattle.ucq_antichain.specs.Calls.{IsPruned, AddsRow}
 use Rattle.ucq_antichain.proofs.Pruned.{with_last, adds_row}
 use Rattle.ucq_antichain.specs.inner.Walks.{IsIndexOf}
-use Rattle.ucq_antichain.proofs.Walked.{IsIndexOf-pruned, IsIndexOf-added}
+use Rattle.ucq_antichain.proofs.Walked.{IsIndexOf-added}
 use Rattle.ucq_antichain.proofs.Antichain.add.Goals as goal
 
 pub returns-clause-does : goal.returns-clause-does
@@ -43,15 +43,15 @@ invariant_of-self c =
     c.push_within.ensures.items ∙ ap (λ (rs : List Row). rs ++ record { query = c.args.query; live = true } ∷ []) kept in
     let size : length c.as_mut_slice.result.now ≡ length f.rows.items = ap (λ (rs : List Row). length rs) c.as_mut_slice.ensures.value in
     let (budget, within, rows_room, empty, room, old, wide) = c.self.invariant in
-    let index : IsIndexOf f.index rows = IsIndexOf-pruned f.index f.rows.items rows p.count p.query old in
+    let index : IsIndexOf c.prune-pruned.new.index rows = c.prune-pruned.ensures.index in
     let indexed : IsIndexOf c.push.new.self c.push_within.new.items.items =
     subst (λ (rs : List Row). IsIndexOf c.push.new.self rs) (sym last)
-    (IsIndexOf-added f.index rows c.args.query c.of-marked.result index c.of-marked.ensures c.push.new.self c.push.ensures.signatures) in (
+    (IsIndexOf-added c.prune-pruned.new.index rows c.args.query c.of-marked.result index c.of-marked.ensures c.push.new.self c.push.ensures.signatures c.push.ensures.has c.push.ensures.others) in (
       budget,
       omega (arith, count-last-rows c.push_within.new.items.items rows c.args.query last, p.count, size, c.as_mut_slice.ensures.len, c.if-len-self.false, c.len.ensures, within),
       omega (arith, rows_room, c.push_within.ensures.capacity),
       empty,
       room,
       indexed,
-      omega (arith, wide, c.push.ensures.groups),
+      omega (arith, wide, c.push.ensures.groups, c.prune-pruned.ensures.groups),
     )
