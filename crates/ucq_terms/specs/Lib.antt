@@ -11,3 +11,4 @@ pub mod Query
 pub mod Rule
 pub mod Names
 pub mod Equality
+pub mod inner

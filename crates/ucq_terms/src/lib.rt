@@ -13,6 +13,7 @@ mod predicate;
 mod problems;
 mod queries;
 mod rules;
+mod text;
 mod unions;
 mod variables;
 

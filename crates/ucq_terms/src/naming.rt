@@ -1,8 +1,10 @@
 //! Names and their numbers.
 ghost use Rattle.std.specs.Prelude.{◌≡◌, ◌≢◌, ◌<◌, ◌-◌, ◌^◌, [], length, AllPairs, Contains, IfOk, IfErr, IfSome, MatchOption, Some, OnOk, OnErr, slice_get, List, ℕ};
 ghost use Rattle.ucq_terms.specs.Names.{name_text, number_of, with_name};
+ghost use Rattle.ucq_terms.specs.inner.Texts.{text_bytes};
 
 use crate::NoMemory;
+use crate::text::Text;
 use indexmap::IndexSet;
 use std::alloc::Global;
 use std::marker::Model;
@@ -11,15 +13,16 @@ use std::marker::Model;
 /// twice. Look-ups take the time of a hash of the text.
 #[derive(Drop)]
 pub struct Names {
-    texts: IndexSet<Vec<u8>>,
+    texts: IndexSet<Text<'static>>,
 }
 
 impl Model for Names {
     ghost use Rattle.std.specs.Prelude.{ℕ, List, map, ◌<◌, ◌^◌, length};
+    ghost use Rattle.ucq_terms.specs.inner.Texts.{text_bytes};
 
     ghost Value = { List (List ℕ) };
 
-    ghost view = { λ n. map (λ t. t.items) n.texts.keys };
+    ghost view = { λ n. map text_bytes n.texts.keys };
 
     ghost invariant = { λ n. length n.texts.keys < 2 ^ 32 };
 }
@@ -42,11 +45,27 @@ impl Names {
         ensures held { IfOk result (λ n. slice_get self.new n ≡ Some text.now) }
         ensures err { OnErr result (self.new ≡ self.old) }
     {
-        if let Some(number) = self.find(text) {
-            return Ok(number);
+        match Text::short(text) {
+            Some(short) => self.add(short),
+            None => match self.find(text) {
+                Some(number) => Ok(number),
+                None => {
+                    let long = Text::long(*self.texts.allocator(), text)?;
+                    self.add(long)
+                }
+            },
         }
-        let held = Vec::from_slice(*self.texts.allocator(), text)?;
-        let (place, _added) = self.texts.insert_full(held)?;
+    }
+
+    // The same, of a text that is made already. One look-up both finds the text and adds it.
+    fn add(&mut self, text: Text<'static>) -> Result<u32, NoMemory>
+        requires { length self.old < 2 ^ 32 - 1 }
+        ensures names { OnOk result (self.new ≡ with_name self.old (text_bytes text.entry)) }
+        ensures number { IfOk result (λ n. n ≡ number_of self.new (text_bytes text.entry)) }
+        ensures held { IfOk result (λ n. slice_get self.new n ≡ Some (text_bytes text.entry)) }
+        ensures err { OnErr result (self.new ≡ self.old) }
+    {
+        let (place, _added) = self.texts.insert_full(text)?;
         Ok(place as u32)
     }
 
@@ -56,7 +75,7 @@ impl Names {
             slice_get self.now n ≡ Some text.now) }
         ensures number { IfSome result (λ n. n ≡ number_of self.now text.now) }
     {
-        let place = self.texts.get_index_of(text)?;
+        let place = self.texts.get_index_of(&Text::Asked(text))?;
         Some(place as u32)
     }
 
@@ -65,7 +84,7 @@ impl Names {
         requires { number < length self.now }
         ensures { slice_get self.now number ≡ Some result.now }
     {
-        self.texts.get_index(number as usize).unwrap().as_slice()
+        self.texts.get_index(number as usize).unwrap().bytes()
     }
 
     /// The text of the number, which is nothing where it isn't held.

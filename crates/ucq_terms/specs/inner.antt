@@ -1,0 +1,2 @@
+-- Words of contracts that no other crate sees.
+pub mod Texts
