@@ -35,6 +35,9 @@ pub const VARIABLES: u32 = 4_096;
 /// The most rules that a problem has.
 pub const RULES: u32 = 4_096;
 
+/// The most queries that an input has.
+pub const QUERIES: u32 = 64;
+
 /// The most atoms of facts that an input has.
 pub const FACTS: u32 = 1_048_576;
 

@@ -48,6 +48,15 @@ impl Problem {
         &self.query
     }
 
+    /// The rules and the query, as they were given.
+    pub fn into_parts(self) -> (Vec<Rule>, Query)
+        ensures rules { result.0.items ≡ self.rules }
+        ensures few { vec_len result.0 ≤ RULES }
+        ensures query { result.1 ≡ self.query }
+    {
+        (self.rules, self.query)
+    }
+
     /// Whether the two have equal lists of rules and equal queries.
     pub fn same(&self, other: &Problem) -> bool
         ensures { IsTrue result ↔ (self.now ≡ other.now) }
