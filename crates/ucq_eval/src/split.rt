@@ -91,7 +91,7 @@ fn put_into(
     Ok(held)
 }
 
-/// How many of so many things are a thread's share, where there are no more than these threads.
+/// How many of so many things each of so many threads takes, rounded up, so that the threads are enough for all.
 pub(crate) fn share(count: usize, threads: usize) -> usize {
     count.div_ceil(threads.max(1))
 }

@@ -13,6 +13,7 @@ mod bytes;
 mod fault;
 mod front;
 mod gaps;
+pub mod laws;
 mod measure;
 
 pub use fault::LexFault;
@@ -110,8 +111,3 @@ pub fn tokens(alloc: Global, text: &[u8]) -> Result<Vec<Token>, LexFault>
     }
     Ok(tokens)
 }
-
-/// A file is spelled by one list of tokens at most.
-pub fn one_reading()
-    ensures { (text : List ℕ) (a b : List Token) → Spells text a → Spells text b → a ≡ b }
-{}

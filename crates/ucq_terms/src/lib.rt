@@ -7,9 +7,9 @@
 ghost use Rattle.ucq_terms.specs.declared.NoMemory.{NoMemory};
 
 mod atom_lists;
+mod atoms;
 mod naming;
 mod piece_list;
-mod predicate;
 mod problems;
 mod queries;
 mod rules;
@@ -17,9 +17,9 @@ mod text;
 mod unions;
 mod variables;
 
+pub use atoms::Atom;
 pub use naming::Names;
 pub use piece_list::Piece;
-pub use predicate::Atom;
 pub use problems::Problem;
 pub use queries::{Query, QueryFault};
 pub use rules::Rule;
