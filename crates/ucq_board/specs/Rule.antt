@@ -4,6 +4,7 @@ use Rattle.std.specs.Prelude.{◌≡◌, ◌≤◌, ◌<◌, ◌+◌, ◌-◌, �
 use mathlib.Core.Option.{some}
 use lib.ListN.{get_elem?}
 use Rattle.atomic_table.specs.Table.{State}
+use Rattle.ucq_board.specs.declared.TheConstants.{ROWS, SEATS}
 use Rattle.ucq_board.specs.declared.rule.View.{View}
 use Rattle.ucq_board.specs.declared.rule.Key.{Key}
 use Rattle.ucq_board.specs.Lists.{times, once_below}
@@ -100,4 +101,4 @@ pub record Keeps (k : Key) (s : State ℕ View) : Type 0 where
   pub each : (id : ℕ) (v : View) → get_elem? s.views id ≡ some v → FitsView k s.words v
   -- the numbers that never change
   pub length : length s.words ≡ k.rows + 2
-  pub small : (k.rows ≤ 65536) × (k.seats ≤ 128)
+  pub small : (k.rows ≤ ROWS) × (k.seats ≤ SEATS)

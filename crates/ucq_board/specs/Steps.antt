@@ -1,5 +1,6 @@
 -- What each kind of step does to the views.
 use Rattle.std.specs.Prelude.{◌≡◌, ◌≢◌, ◌≤◌, ◌<◌, ◌+◌, ◌-◌, ℕ, true, false, [], ◌∷◌, ◌++◌, ◌||◌, Contains}
+use Rattle.ucq_board.specs.declared.TheConstants.{SEATS}
 use Rattle.ucq_board.specs.declared.rule.View.{View}
 use Rattle.ucq_board.specs.Lists.{AreOnce}
 
@@ -69,4 +70,4 @@ pub record AsksRow (row : ℕ) (before : View) (found : ℕ) (after : View) : Ty
 pub record Looks (before after : View) : Type 0 where
   pub same : after ≡ before
   pub once : AreOnce before.drawn
-  pub few : before.spare < 128
+  pub few : before.spare < SEATS

@@ -1,6 +1,7 @@
 -- What contracts see of a board, a seat and a closed board.
 use Rattle.std.specs.Prelude.{◌≡◌, ◌≤◌, ◌<◌, ◌+◌, ℕ, Bool, false, List, slice_index_or, min, map, drop, All, ◌==◌}
 use Rattle.atomic_table.specs.Seated.{TableId}
+use Rattle.ucq_board.specs.declared.TheConstants.{ROWS, SEATS}
 use Rattle.ucq_board.specs.declared.rule.Key.{Key}
 use Rattle.ucq_board.specs.declared.rule.View.{View}
 use Rattle.ucq_board.specs.Rule.{cursor_in, stop_in}
@@ -44,14 +45,14 @@ pub record IsBoard (table : TableId) (key : Key) (count places : ℕ) : Type 0 w
   pub slots : table.slots ≡ 0
   pub rows : key.rows ≡ count
   pub seats : key.seats ≡ places
-  pub few : (count ≤ 65536) × (places ≤ 128)
+  pub few : (count ≤ ROWS) × (places ≤ SEATS)
 
 -- the numbers of a seat are those that it knows, and what it has drawn are rows
 pub record IsSeat (table : TableId) (knows : View) (left : ℕ) (over : Bool) : Type 0 where
   pub rows : knows.rows + 2 ≡ table.words
   pub unspent : knows.spent ≡ false
   pub spare : knows.spare ≡ left
-  pub few : left < 128
+  pub few : left < SEATS
   pub ended : knows.ended ≡ over
   pub drawn : All (λ row. row < knows.rows) knows.drawn
 
@@ -59,4 +60,4 @@ pub record IsSeat (table : TableId) (knows : View) (left : ℕ) (over : Bool) : 
 pub record IsClosed (words slots rows : ℕ) : Type 0 where
   pub words_are : words ≡ rows + 2
   pub slots_are : slots ≡ 0
-  pub few : rows ≤ 65536
+  pub few : rows ≤ ROWS

@@ -1,5 +1,6 @@
 //! Boards and their seats.
 ghost use Rattle.std.specs.Prelude.{◌≡◌, ◌≤◌, ◌<◌, ◌+◌, ℕ, IfSome, IfOk, true, false, Contains, IsTrue, ◌↔◌, length};
+ghost use Rattle.ucq_board.specs.declared.TheConstants.{ROWS, SEATS};
 ghost use Rattle.ucq_board.specs.Lists.{AreBelow, AreOnce};
 ghost use Rattle.ucq_board.specs.Rule.{fresh};
 ghost use Rattle.ucq_board.specs.Steps.{left_of, right_of, both_of, finishing, stopping};
@@ -116,7 +117,7 @@ impl Seat {
     /// How many seats may still be split from this one, 0 to 127.
     pub fn spare(&self) -> u32
         ensures spare { result ≡ self.now.view.spare }
-        ensures few { result < 128 }
+        ensures few { result < SEATS }
     {
         self.spare
     }
@@ -133,9 +134,9 @@ impl Board {
     /// A board of so many rows, 0 to 65,536, for so many seats, 1 to 128, and its first seat, which has the others to spare.
     /// No other call takes memory.
     pub fn new(alloc: Global, rows: u32, seats: u32) -> Result<(Board, Seat), NoMemory>
-        requires rows { rows ≤ 65536 }
+        requires rows { rows ≤ ROWS }
         requires some { 1 ≤ seats }
-        requires seats { seats ≤ 128 }
+        requires seats { seats ≤ SEATS }
         ensures board { IfOk result (λ r. (r.0.rows ≡ rows) × (r.0.seats ≡ seats)) }
         ensures seat { IfOk result (λ r. IsSeatOf r.0 r.1) }
         ensures view { IfOk result (λ r. r.1.view ≡ fresh (record { rows = rows; seats = seats })) }

@@ -8,6 +8,12 @@ mod rule;
 pub use board::{Board, Closed, Seat};
 use std::alloc::{AllocError, AllocFailed};
 
+/// The most rows of a board.
+pub const ROWS: u32 = 65_536;
+
+/// The most seats of a board.
+pub const SEATS: u32 = 128;
+
 /// Want of memory.
 #[derive(Clone, Copy, Debug, PartialEq, Eq)]
 pub struct NoMemory;
