@@ -40,7 +40,7 @@ module _ (names : List (List ℕ)) (readable : AreReadable names) where
   abbrev IsPrintableRow : Row → Type 0
   IsPrintableRow row = IsPrintable names row.query
 
-  row_is_line : (row : Row) → IsPrintableRow row → IsLine (row_line names row)
+  pub row_is_line : (row : Row) → IsPrintableRow row → IsLine (row_line names row)
   row_is_line row h = marked row.live
     where
       text : IsSingle (query_text names row.query)

@@ -1,8 +1,9 @@
 -- Every predicate and constant of an input has a name.
 use Rattle.std.proofs.Common.{◌≡◌, ℕ, List, [], ◌∷◌, ◌++◌, length, map, All, Contains, refl, sym, subst, inl, inr}
-use Rattle.std.specs.List.{flat_map, enumerate_from}
+use Rattle.std.specs.Prelude.{None}
+use Rattle.std.specs.List.{AllZip, flat_map, enumerate_from}
 use Rattle.std.specs.Str.{bytes_eq}
-use Rattle.std.proofs.lemmas.List.Elements.{Contains-append_left, Contains-append_right}
+use Rattle.std.proofs.lemmas.List.Elements.{All-cons, All-nil, Contains-append_left, Contains-append_right}
 use Rattle.ucq_terms.specs.declared.Term.{Term}
 use Rattle.ucq_terms.specs.Syntax.{Atom, Rule, Query}
 use Rattle.ucq_terms.proofs.Lists.{All-from_contains, Contains-first, Contains-rest, Contains-cons_cases, Contains-empty, Contains-from_map, Contains-flat_map, Contains-from_flat_map}
@@ -10,10 +11,11 @@ use Rattle.ucq_terms.proofs.Numbering.{Contains-first_occurrences}
 use Rattle.ucq_terms.proofs.Subsets.{IsSubset-contains}
 use Rattle.ucq_terms.proofs.Texts.{IsEquality-bytes_eq, number_of_held}
 use Rattle.ucq_terms.proofs.Zips.{Contains-from_enumerate}
-use Rattle.ucq_chase.specs.Names.{IsHeldTerm, IsHeldAtom, AreHeldAtoms, IsHeldQuery, IsHeldRule}
+use Rattle.ucq_chase.specs.Names.{IsHeldTerm, IsHeldAtom, AreHeldAtoms, IsHeldQuery, IsHeldRule, IsHeldProblem}
+use Rattle.ucq_reader.specs.declared.input.Asked.{Asked}
 use Rattle.ucq_reader.specs.Names.{number, in_order}
-use Rattle.ucq_reader.specs.Meaning.{Symbol, constant, variable, SymbolAtom, SymbolRule, SymbolQuery, Meant}
-use Rattle.ucq_reader.specs.Input.{variables_in, terms_in, term_value, atom_value, rule_value, IsQueryOf, InputValue, IsNumbered}
+use Rattle.ucq_reader.specs.Meaning.{Symbol, constant, variable, SymbolAtom, SymbolRule, SymbolQuery, SymbolAsked, Meant}
+use Rattle.ucq_reader.specs.Input.{variables_in, terms_in, term_value, atom_value, rule_value, IsQueryOf, IsAskedOf, InputValue, IsNumbered}
 use Rattle.ucq_reader.specs.Building.{constants_of, atom_symbols, symbols_in, rule_symbols, query_symbols}
 use Rattle.ucq_reader.specs.Made.{made, made_rules, made_query, made_facts, rule_texts, query_texts, fact_texts}
 use Rattle.ucq_print.specs.Laws.{IsHeldInput}
@@ -79,10 +81,18 @@ query_held names q query h of =
           subst (IsHeldAtom (length names)) e (atoms k a l));
     }
 
+-- what holds of each second element, beside the first
+pub All-from_zip : {A B : Type 0} (R : A → B → Type 0) (P : B → Type 0) (xs : List A) (ys : List B) → AllZip R xs ys → ((x : A) (y : B) → Contains xs x → R x y → P y) → All P ys
+All-from_zip R P [] [] h f = All-nil P
+All-from_zip R P [] (y ∷ ys) h f = absurd h
+All-from_zip R P (x ∷ xs) [] h f = absurd h
+All-from_zip R P (x ∷ xs) (y ∷ ys) h f =
+    All-cons P y ys (f x y (Contains-first x xs) h.0) (All-from_zip R P xs ys h.1 (λ v w i r. f v w (Contains-rest x xs v i) r))
+
 -- the names of what is meant have all its texts
 pub record HasTexts (m : Meant) : Type 0 where
   pub rules : (r : SymbolRule) → Contains m.rules r → (t : List ℕ) → Contains (constants_of (rule_symbols r)) t → Contains m.texts t
-  pub query : (t : List ℕ) → Contains (constants_of (query_symbols m.query)) t → Contains m.texts t
+  pub queries : (q : SymbolAsked) → Contains m.queries q → (t : List ℕ) → Contains (constants_of (query_symbols q.query)) t → Contains m.texts t
   pub facts : (f : List SymbolAtom) → Contains m.facts f → (t : List ℕ) → Contains (constants_of (symbols_in f)) t → Contains m.texts t
 
 among_names : (m : Meant) (names : List (List ℕ)) (symbols : List Symbol) → names ≡ in_order m.texts → ((t : List ℕ) → Contains (constants_of symbols) t → Contains m.texts t) →
@@ -94,13 +104,13 @@ among_names m names symbols e h = record {
 pub numbered_is_held : (m : Meant) (input : InputValue) → HasTexts m → IsNumbered m input → IsHeldInput input
 numbered_is_held m input has n =
     let names : List (List ℕ) = input.names in
+    let rules : All (IsHeldRule (length names)) input.rules =
+    All-from_contains (IsHeldRule (length names)) input.rules (λ r i.
+    let (s, j, e) = Contains-from_map (rule_value names) m.rules r (subst (λ (rs : List Rule). Contains rs r) n.rules i) in
+    subst (IsHeldRule (length names)) e (rule_held names s (among_names m names (rule_symbols s) n.names (has.rules s j)))) in
     record {
-      problem = record {
-        rules = All-from_contains (IsHeldRule (length names)) input.rules (λ r i.
-            let (s, j, e) = Contains-from_map (rule_value names) m.rules r (subst (λ (rs : List Rule). Contains rs r) n.rules i) in
-            subst (IsHeldRule (length names)) e (rule_held names s (among_names m names (rule_symbols s) n.names (has.rules s j))));
-        query = query_held names m.query input.query (among_names m names (query_symbols m.query) n.names has.query) n.query;
-      };
+      problem = All-from_zip (IsAskedOf names) (λ (asked : Asked). IsHeldProblem (length names) (record { rules = input.rules; query = asked.query })) m.queries input.queries n.queries (λ q asked i of.
+          record { rules = rules; query = query_held names q.query asked.query (among_names m names (query_symbols q.query) n.names (has.queries q i)) of.query });
       facts = All-from_contains (IsHeldAtom (length names)) input.facts (λ a i.
           let of_fact : ℕ × List SymbolAtom → List Atom = λ (f : ℕ × List SymbolAtom). map (atom_value names (n.unknown f.0)) f.1 in
           let (f, j, k) = Contains-from_flat_map of_fact (enumerate_from 0 m.facts) a (subst (λ (atoms : List Atom). Contains atoms a) n.facts i) in
@@ -119,6 +129,11 @@ made_has_texts n =
     let facts = flat_map fact_texts (made_facts n) in
     record {
       rules = λ r i t j. Contains-append_left rules (query ++ facts) t (Contains-flat_map rule_texts (made_rules n) r t i j);
-      query = λ t j. Contains-append_right rules (query ++ facts) t (Contains-append_left query facts t j);
+      queries = λ q i t j.
+          let here : Contains query t = elim (Contains-cons_cases (record { label = None; query = made_query }) [] q i) [
+            | inl e ↦ subst (λ (x : SymbolAsked). Contains (constants_of (query_symbols x.query)) t) (sym e) j
+            | inr k ↦ absurd (Contains-empty q k)
+          ] in
+          Contains-append_right rules (query ++ facts) t (Contains-append_left query facts t here);
       facts = λ f i t j. Contains-append_right rules (query ++ facts) t (Contains-append_right query facts t (Contains-flat_map fact_texts (made_facts n) f t i j));
     }

@@ -12,27 +12,28 @@ use Rattle.ucq_terms.proofs.Lists.{All-from_contains, Contains-first, Contains-r
 use Rattle.ucq_terms.proofs.Numbering.{IsDistinct-first_occurrences, Contains-from_first_occurrences}
 use Rattle.ucq_terms.proofs.Texts.{IsEquality-bytes_eq}
 use Rattle.ucq_lexer.specs.declared.Kind.{Kind}
-use Rattle.ucq_lexer.specs.declared.Kind.TheVariants.{Identifier, Iri, Prefixed, Integer, Text}
+use Rattle.ucq_lexer.specs.declared.Kind.TheVariants.{Identifier, Iri, Label, Prefixed, Integer, Text}
 use Rattle.ucq_lexer.specs.declared.Token.{Token}
 use Rattle.ucq_lexer.specs.Bytes.{is_word_byte, is_local_start, is_iri_byte}
-use Rattle.ucq_lexer.specs.Spelling.{IsSpelled, IsRun, IsIri, IsInteger, IsText, IsLocalPart, IsPrefixed}
+use Rattle.ucq_lexer.specs.Spelling.{IsSpelled, IsRun, IsIri, IsInteger, IsText, IsLabel, IsLocalPart, IsPrefixed}
 use Rattle.ucq_lexer.specs.Tokens.{Reads as TokensRead}
 use Rattle.ucq_reader.specs.declared.ReadFault.{ReadFault}
-use Rattle.ucq_reader.specs.Statement.{Word, identifier, iri, prefixed, integer, text, word_of, Statement, a_prefix, a_sentence, spelling}
+use Rattle.ucq_reader.specs.Statement.{Word, identifier, iri, label, prefixed, integer, text, word_of, Statement, a_prefix, a_sentence, spelling}
 use Rattle.ucq_reader.specs.File.{Reads}
 use Rattle.ucq_reader.specs.Names.{Declared, declared, declare, inner_bytes, prefix_part, local_part, expanded, word_text, is_undeclared, in_order}
-use Rattle.ucq_reader.specs.Meaning.{Meant, SymbolQuery, FileRead, malformed, parsed, Placed, placed, placed_from, texts_of, first_of, mapped, statement_fault, unknown_prefix, not_built, limit, unsafe_answer, file_fault, files_fault, unless, meant, asked}
+use Rattle.ucq_reader.specs.Meaning.{Meant, SymbolAsked, FileRead, malformed, parsed, Placed, placed, placed_from, texts_of, first_of, mapped, statement_fault, unknown_prefix, not_built, limit, unsafe_answer, file_fault, files_fault, unless, meant, with_queries}
 use Rattle.ucq_reader.specs.Input.{words, starts, AreRead, IsRead, IsGoneOn, InputValue, IsInput}
 use Rattle.ucq_print.specs.Laws.{IsNameText, AreReadable}
 use Rattle.ucq_print.proofs.Spelled.{word_run}
 
 -- the bytes of a word that are kept are spelled
-abbrev IsGood : Word → Type 0
+abbrev pub IsGood : Word → Type 0
 IsGood (identifier bytes) = IsSpelled Identifier bytes
 IsGood (iri bytes) = IsIri bytes
 IsGood (prefixed bytes) = IsPrefixed bytes
 IsGood (integer bytes) = IsInteger bytes
 IsGood (text bytes) = IsText bytes
+IsGood (label bytes) = IsLabel bytes
 IsGood _ = Unit {0}
 
 word_good : (kind : Kind) (bytes : List ℕ) → IsSpelled kind bytes → IsGood (word_of kind bytes)
@@ -41,6 +42,7 @@ word_good Iri bytes h = h
 word_good Prefixed bytes h = h
 word_good Integer bytes h = h
 word_good Text bytes h = h
+word_good Label bytes h = h
 word_good _ bytes h = tt
 
 words_good : (bytes : List ℕ) (here : ℕ) (tokens : List Token) (there : ℕ) → TokensRead bytes here tokens there → (w : Word) → Contains (words bytes tokens) w → IsGood w
@@ -51,7 +53,7 @@ words_good bytes here (t ∷ ts) there h w i = elim (Contains-cons_cases (word_o
 ]
 
 -- the words of a statement
-abbrev IsGoodStatement : Statement → Type 0
+abbrev pub IsGoodStatement : Statement → Type 0
 IsGoodStatement s = (w : Word) → Contains (spelling s) w → IsGood w
 
 -- the inner bytes of declared Iris
@@ -140,9 +142,9 @@ name_of_word ds (text bytes) t good h known e = let same : bytes ≡ t = cc in s
 name_of_word ds _ t good h known e = absurd cc
 
 -- a statement in its place
-record IsGoodPlaced (p : Placed) : Type 0 where
+pub record IsGoodPlaced (p : Placed) : Type 0 where
   declared : IsGoodDeclared p.before
-  words : IsGoodStatement p.statement
+  pub words : IsGoodStatement p.statement
   known : (w : Word) → Contains (spelling p.statement) w → is_undeclared p.before w ≡ false
 
 pub from_filter_map : {X Y : Type 0} (f : X → Option Y) (xs : List X) (y : Y) → Contains (filter_map f xs) y → (x : X) × Contains xs x × (f x ≡ Some y)
@@ -165,11 +167,11 @@ names_of_placed file number places ds (a_sentence l sentence) t good h =
 names_of_placed file number places ds _ t good h = absurd (Contains-empty t h)
 
 -- no fault of a list
-none_of : {A : Type 0} (o : Option A) (rest : List (Option A)) → first_of (o ∷ rest) ≡ None → (o ≡ None) × (first_of rest ≡ None)
+pub none_of : {A : Type 0} (o : Option A) (rest : List (Option A)) → first_of (o ∷ rest) ≡ None → (o ≡ None) × (first_of rest ≡ None)
 none_of None rest e = (refl, e)
 none_of (Some a) rest e = absurd cc
 
-mapped_none : {A B : Type 0} (f : A → B) (o : Option A) → mapped f o ≡ None → o ≡ None
+pub mapped_none : {A B : Type 0} (f : A → B) (o : Option A) → mapped f o ≡ None → o ≡ None
 mapped_none f None e = refl
 mapped_none f (Some a) e = absurd cc
 
@@ -213,7 +215,7 @@ file_good file bytes statements places (tokens, spells, are, is) e =
     placed_from_good file 0 places [] (words bytes tokens) statements (λ d i. absurd (Contains-empty d i)) (words_good bytes 0 tokens (length bytes) spells) are
     (ap length is ∙ (length-map tokens (λ (t : Token). t.start) ∙ sym (length-map tokens (λ (t : Token). word_of t.kind (take (t.end - t.start) (drop t.start bytes)))))) e
 
-files_good : (file : ℕ) (texts : List (List ℕ)) (reads : List FileRead) → AreRead file texts reads → files_fault file reads ≡ None → (p : Placed) → Contains (placed file reads) p → IsGoodPlaced p
+pub files_good : (file : ℕ) (texts : List (List ℕ)) (reads : List FileRead) → AreRead file texts reads → files_fault file reads ≡ None → (p : Placed) → Contains (placed file reads) p → IsGoodPlaced p
 files_good file [] [] are e p i = absurd (Contains-empty p i)
 files_good file [] (f ∷ fs) are e p i = absurd are
 files_good file (t ∷ ts) [] are e p i = absurd are
@@ -232,20 +234,19 @@ pub unless_ok : (o : Option ReadFault) (r : Result Meant ReadFault) (m : Meant) 
 unless_ok None r m e = (refl, e)
 unless_ok (Some fault) r m e = absurd cc
 
-asked_texts : (all : List Placed) (qs : List (Placed × SymbolQuery)) (m : Meant) → asked all qs ≡ Ok m → m.texts ≡ flat_map texts_of all
-asked_texts all [] m e = absurd cc
-asked_texts all (q ∷ []) m e = sym (ap texts_or_none e)
+meant_texts : (all : List Placed) (queries : List SymbolAsked) (m : Meant) → with_queries all queries ≡ Ok m → m.texts ≡ flat_map texts_of all
+meant_texts all [] m e = absurd cc
+meant_texts all (q ∷ more) m e = sym (ap texts_or_none e)
   where
     texts_or_none : Result Meant ReadFault → List (List ℕ)
     texts_or_none (Ok x) = x.texts
     texts_or_none (Err x) = []
-asked_texts all (q ∷ r ∷ rest) m e = absurd cc
 
 pub input_names : (files : List (List ℕ)) (input : InputValue) → IsInput files input → AreReadable input.names
 input_names files input (m, (reads, are, outcome), numbered) =
     let whole = unless_ok (files_fault 0 reads) (meant (placed 0 reads)) m (sym outcome) in
     let counted = unless_ok _ _ m whole.1 in
-    let texts : m.texts ≡ flat_map texts_of (placed 0 reads) = asked_texts (placed 0 reads) _ m counted.1 in
+    let texts : m.texts ≡ flat_map texts_of (placed 0 reads) = meant_texts (placed 0 reads) _ m counted.1 in
     let each : (t : List ℕ) → Contains (in_order m.texts) t → IsNameText t = λ t i.
     (let j : Contains (flat_map texts_of (placed 0 reads)) t = subst (λ (l : List (List ℕ)). Contains l t) texts (Contains-from_first_occurrences bytes_eq IsEquality-bytes_eq m.texts t i) in
     let (p, k, l) = Contains-from_flat_map texts_of (placed 0 reads) t j in

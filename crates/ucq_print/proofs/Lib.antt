@@ -5,7 +5,10 @@ mod LineFeeds
 mod ToldLines
 pub mod Unions
 pub mod CutTexts
+pub mod Headers
+pub mod SectionTexts
 pub mod InputNames
+pub mod InputLabels
 pub mod Stored
 pub mod HeldNames
 pub mod InputHeld

@@ -22,10 +22,10 @@ use Rattle.ucq_print.proofs.ReadBack.{IsPrintedTerm, IsPrintedAtom, IsPrinted}
 pub record IsSingle (bytes : List ℕ) : Type 0 where
   pub free : ¬ Contains bytes 10
 
-single_nothing : IsSingle []
+pub single_nothing : IsSingle []
 single_nothing = record { free = λ i. Contains-empty 10 i }
 
-single_first : (b : ℕ) (bytes : List ℕ) → b ≢ 10 → IsSingle bytes → IsSingle (b ∷ bytes)
+pub single_first : (b : ℕ) (bytes : List ℕ) → b ≢ 10 → IsSingle bytes → IsSingle (b ∷ bytes)
 single_first b bytes other h = record {
   free = λ i. elim (Contains-cons_cases b bytes 10 i) [ inl e ↦ other e | inr j ↦ h.free j ];
 }

@@ -10,7 +10,7 @@ use Rattle.ucq_terms.specs.Syntax.{Query}
 use Rattle.ucq_antichain.specs.declared.Row.{Row}
 use Rattle.ucq_antichain.specs.Rows.{no_row, row_at}
 use Rattle.ucq_eval.specs.Tuples.{tuple_text}
-use Rattle.ucq_print.specs.Texts.{answer_lines, line_feed, tuple_line, query_line, row_line, row_lines, left_line, lines_text, finished_lines, rows_cut_lines, wide_cut_lines}
+use Rattle.ucq_print.specs.Texts.{answer_lines, line_feed, tuple_line, row_line, row_lines, left_line, lines_text, rows_cut_lines, wide_cut_lines}
 
 -- an element of a list's front, and the one behind it
 slice_get-front : {X : Type 0} (xs ys : List X) (k : ℕ) → k < length xs → slice_get (xs ++ ys) k ≡ slice_get xs k

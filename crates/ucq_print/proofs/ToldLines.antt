@@ -121,3 +121,12 @@ whole_lines one two h k e =
     let text : lines_text one ++ [] ≡ lines_text two ++ [] = ap (λ l. l ++ []) e in
     let same = ended_lines IsSome one two [] [] h k (λ i d b. line_is_some _ (h i d b)) (λ i d b. line_is_some _ (k i d b)) nothing nothing text in
     same.front
+
+-- lines that begin a text of lines are the first of them
+pub lines_begin : (one two : List (List ℕ)) (x : List ℕ) → All IsLine one → All IsLine two → lines_text one ++ x ≡ lines_text two → GoesOn one x two []
+lines_begin one two x h k e = elim (lines_told one two x [] h k (e ∙ sym (append-nil (lines_text two)))) [
+  | inl g ↦ g
+  | inr g ↦
+      let same = none_more IsSome two one [] x (λ i d b. line_is_some _ (h i d b)) nothing g in
+      record { more = []; lines = same.front ∙ sym (append-nil one); rests = sym same.rest }
+]

@@ -53,7 +53,7 @@ module _ (names : List (List ℕ)) (readable : AreReadable names) where
   pub query_is_single : (q : Query) → IsPrintable names q → IsSingle (query_text names q)
   query_is_single q h = single_query names readable (numbered_query q) (printed_query names q h)
 
-  query_is_line : (q : Query) → IsPrintable names q → IsLine (query_line names q)
+  pub query_is_line : (q : Query) → IsPrintable names q → IsLine (query_line names q)
   query_is_line q h = record { inner = query_text names q; is = refl; single = (query_is_single q h).free }
 
   -- a query by its line
@@ -111,7 +111,7 @@ module _ (names : List (List ℕ)) (readable : AreReadable names) where
   abbrev tuple_lines : List (List ℕ) → List ℕ
   tuple_lines tuples = lines_text (map (tuple_line names) tuples)
 
-  tuple_is_line : (tuple : List ℕ) → All (λ c. c < length names) tuple → IsLine (tuple_line names tuple)
+  pub tuple_is_line : (tuple : List ℕ) → All (λ c. c < length names) tuple → IsLine (tuple_line names tuple)
   tuple_is_line tuple h =
       let text : IsSingle (tuple_text names tuple) = subst IsSingle (sym (tuple_is tuple)) (single_terms names readable (map Constant tuple) (constants_printed tuple h)) in
       record { inner = codes "% " ++ tuple_text names tuple; is = refl; single = (single_both (codes "% ") (tuple_text names tuple) (single_run is_told (codes "% ") refl refl) text).free }

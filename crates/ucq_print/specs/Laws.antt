@@ -1,5 +1,6 @@
 -- What a printed text tells of its union.
-use Rattle.std.specs.Prelude.{◌≡◌, ◌≢◌, ◌<◌, ◌^◌, ◌⊎◌, ◌++◌, ℕ, List, length, map, All, AllPairs, Contains, codes}
+use Rattle.std.specs.Prelude.{◌≡◌, ◌≢◌, ◌<◌, ◌+◌, ◌^◌, ◌⊎◌, ◌∷◌, ◌++◌, ℕ, List, Option, Some, IfSome, length, map, drop, slice_get, All, AllPairs, Contains, codes}
+use Rattle.std.specs.List.{flat_map}
 use Rattle.ucq_terms.specs.Syntax.{Query}
 use Rattle.ucq_terms.specs.Query.{IsStored}
 use Rattle.ucq_terms.specs.Numbering.{query_order, numbered_query}
@@ -7,9 +8,10 @@ use Rattle.ucq_antichain.specs.declared.Row.{Row}
 use Rattle.ucq_lexer.specs.declared.Kind.TheVariants.{Identifier, Iri, Integer, Text}
 use Rattle.ucq_lexer.specs.Spelling.{IsSpelled}
 use Rattle.ucq_chase.specs.Names.{AreHeldAtoms, IsHeldQuery, IsHeldProblem}
+use Rattle.ucq_reader.specs.declared.input.Asked.{Asked}
 use Rattle.ucq_reader.specs.Input.{InputValue, IsInput, IsNumbered}
 use Rattle.ucq_reader.specs.Made.{made}
-use Rattle.ucq_print.specs.Texts.{answered_text, finished_text, line_feed, lines_text, rows_cut_text, wide_cut_text}
+use Rattle.ucq_print.specs.Texts.{answer_lines, answered_lines, answered_text, finished_lines, finished_text, line_feed, lines_text, rows_cut_lines, rows_cut_text, section_line, wide_cut_lines, wide_cut_text}
 
 -- ---- lines
 
@@ -161,17 +163,100 @@ TextsDiffer =
     × (finished_text names union ++ rest ≢ wide_cut_text names row rule rows ++ other)
     × (rows_cut_text names budget rows left ++ rest ≢ wide_cut_text names row rule others ++ other)
 
+-- ---- sections
+
+-- the bytes begin as the header of a section does
+abbrev pub BeginsASection : List ℕ → Type 0
+BeginsASection bytes = (rest : List ℕ) × (bytes ≡ codes "% query " ++ rest)
+
+-- lines of a section: none of them begins as a header does
+pub record AreSectionLines (section : List (List ℕ)) : Type 0 where
+  pub lines : All IsLine section
+  pub none : All (λ line. ¬ BeginsASection line) section
+
+-- the label has no line feed
+abbrev pub IsLabelLine : Option (List ℕ) → Type 0
+IsLabelLine label = IfSome label (λ bytes. ¬ Contains bytes 10)
+
+-- a header tells its number and its label
+abbrev pub HeaderTells : Type 0
+HeaderTells =
+    (one two : ℕ) (label other : Option (List ℕ)) →
+    one < 2 ^ 64 →
+    two < 2 ^ 64 →
+    section_line one label ≡ section_line two other →
+    (one ≡ two) × (label ≡ other)
+
+-- a header is a line
+abbrev pub HeaderIsLine : Type 0
+HeaderIsLine = (number : ℕ) (label : Option (List ℕ)) → number < 2 ^ 64 → IsLabelLine label → IsLine (section_line number label)
+
+-- what a header says, and the lines behind it
+pub record Headed : Type 0 where
+  pub number : ℕ
+  pub label : Option (List ℕ)
+  pub lines : List (List ℕ)
+
+abbrev pub headed_lines : Headed → List (List ℕ)
+headed_lines s = section_line s.number s.label ∷ s.lines
+
+-- the header is a line, and so are those behind it, none of which begins as a header does
+pub record IsHeaded (s : Headed) : Type 0 where
+  pub small : s.number < 2 ^ 64
+  pub label : IsLabelLine s.label
+  pub lines : AreSectionLines s.lines
+
+-- Where a header stands behind whole lines in the join of sections, it is the header of one of them, with whose lines the rest
+-- begins; then come the later sections.
+abbrev pub SectionsAreTold : Type 0
+SectionsAreTold =
+    (sections : List Headed) (before : List (List ℕ)) (number : ℕ) (label : Option (List ℕ)) (rest : List ℕ) →
+    All IsHeaded sections →
+    All IsLine before →
+    number < 2 ^ 64 →
+    IsLabelLine label →
+    lines_text (flat_map headed_lines sections) ≡ lines_text before ++ (section_line number label ++ rest) →
+    (place : ℕ)
+    × (s : Headed)
+    × (slice_get sections place ≡ Some s)
+    × (s.number ≡ number)
+    × (s.label ≡ label)
+    × (rest ≡ lines_text (s.lines ++ flat_map headed_lines (drop (place + 1) sections)))
+
+-- the lines of a finished union, with or without its answers, and of either cut are lines of a section
+abbrev pub TextsAreSections : Type 0
+TextsAreSections =
+    (names : List (List ℕ)) →
+    AreReadable names →
+    ((union : List Query) → ArePrintable names union → AreSectionLines (finished_lines names union))
+    × ((union : List Query) (tuples : List (List ℕ)) → ArePrintable names union → ArePrintableTuples names tuples → AreSectionLines (answered_lines names union tuples))
+    × ((budget : ℕ) (rows : List Row) (left : Query) → budget < 2 ^ 64 → ArePrintableRows names rows → IsPrintable names left →
+    AreSectionLines (rows_cut_lines names budget rows left))
+    × ((row rule : ℕ) (rows : List Row) → row < 2 ^ 64 → rule < 2 ^ 64 → ArePrintableRows names rows → AreSectionLines (wide_cut_lines names row rule rows))
+
+-- no text begins both with a header and with the lines of answers
+abbrev pub HeadersAreNoAnswers : Type 0
+HeadersAreNoAnswers =
+    (number : ℕ) (label : Option (List ℕ)) (rest other : List ℕ) (names : List (List ℕ)) (tuples : List (List ℕ)) →
+    section_line number label ++ rest ≢ lines_text (answer_lines names tuples) ++ other
+
+-- ---- inputs
+
 -- the names of what files stand for are readable
 abbrev pub InputNamesAreReadable : Type 0
 InputNamesAreReadable = (files : List (List ℕ)) (input : InputValue) → IsInput files input → AreReadable input.names
+
+-- no label of it has a line feed, so that each header is a line
+abbrev pub InputLabelsAreLines : Type 0
+InputLabelsAreLines = (files : List (List ℕ)) (input : InputValue) → IsInput files input → All (λ (asked : Asked). IsLabelLine asked.label) input.queries
 
 -- a stored query is printable where its predicates and constants have names
 abbrev pub StoredArePrintable : Type 0
 StoredArePrintable = (names : List (List ℕ)) (q : Query) → IsStored q → IsHeldQuery (length names) q → IsPrintable names q
 
--- each predicate and constant of the rules, of the query and of the facts has a name
+-- each predicate and constant of the rules, of each query and of the facts has a name
 pub record IsHeldInput (input : InputValue) : Type 0 where
-  pub problem : IsHeldProblem (length input.names) (record { rules = input.rules; query = input.query })
+  pub problem : All (λ (asked : Asked). IsHeldProblem (length input.names) (record { rules = input.rules; query = asked.query })) input.queries
   pub facts : AreHeldAtoms (length input.names) input.facts
 
 -- the input that files stand for is so

@@ -1,7 +1,7 @@
 -- The texts of the reader's refusals, each of which is a line of the error stream.
 use Rattle.std.specs.Prelude.{ℕ, List, ◌++◌, codes, decimal}
 use Rattle.ucq_reader.specs.declared.ReadFault.{ReadFault}
-use Rattle.ucq_reader.specs.declared.ReadFault.TheVariants.{BadByte, BadStatement, OpenEnd, UnknownPrefix, NotBuilt, Limit, Unsafe, TooMany, NoQuery, ManyQueries, Memory}
+use Rattle.ucq_reader.specs.declared.ReadFault.TheVariants.{BadByte, BadStatement, OpenEnd, UnknownPrefix, NotBuilt, Limit, Unsafe, TooMany, NoQuery, Memory}
 use Rattle.ucq_reader.specs.declared.NotBuiltKind.{NotBuiltKind}
 use Rattle.ucq_reader.specs.declared.NotBuiltKind.TheVariants as kinds
 use Rattle.ucq_reader.specs.declared.Which.{Which}
@@ -24,6 +24,7 @@ limit_word limits.Atoms = codes "atoms"
 abbrev pub whole_word : Whole → List ℕ
 whole_word wholes.Rules = codes "rules"
 whole_word wholes.Facts = codes "facts"
+whole_word wholes.Queries = codes "queries"
 
 -- what is wrong at a byte of a file, and in a statement of one
 abbrev pub byte_text : ℕ → ℕ → List ℕ → List ℕ
@@ -47,7 +48,6 @@ refusal_text (Limit file number which count) = statement_text file number (codes
 refusal_text (Unsafe file number place) = statement_text file number (codes ": answer " ++ decimal place ++ codes " is not in the body")
 refusal_text (TooMany which count) = codes "ucq: " ++ limit_text (whole_word which) count
 refusal_text NoQuery = codes "ucq: no query"
-refusal_text (ManyQueries file number) = statement_text file number (codes ": second query")
 refusal_text Memory = codes "ucq: out of memory"
 
 -- the line of a refusal of the reader

@@ -1,4 +1,4 @@
--- The texts that a run prints: of a finished union, and of rows where the run was cut.
+-- The texts that a run prints: of a finished union, of rows where the run was cut, and the headers of sections.
 use Rattle.std.specs.Prelude.{ℕ, Bool, true, false, List, [], ◌∷◌, ◌++◌, length, map, codes, decimal, sum_by, Option, Some, None}
 use Rattle.std.specs.List.{flat_map}
 use Rattle.ucq_terms.specs.declared.Term.{Term}
@@ -140,3 +140,12 @@ lines_of_cut names budget rows (Some (Wide row rule count)) = wide_cut_lines nam
 -- the lines of a store that is cut; none where it isn't cut
 abbrev pub cut_lines : List (List ℕ) → Store → List (List ℕ)
 cut_lines names s = lines_of_cut names s.budget s.rows s.cut
+
+-- what stands behind a query's number: a space and its label, where it has one
+abbrev pub label_text : Option (List ℕ) → List ℕ
+label_text None = []
+label_text (Some label) = codes " " ++ label
+
+-- The header of a query's section. Queries are numbered from 0.
+abbrev pub section_line : ℕ → Option (List ℕ) → List ℕ
+section_line number label = codes "% query " ++ decimal number ++ label_text label ++ line_feed

@@ -1,5 +1,5 @@
 //! Laws of the texts, each the contract of a function that does nothing.
-ghost use Rattle.ucq_print.specs.Laws.{AnsweredTextTellsUnion, BeginningTellsUnion, CountedLinesAreTold, FinishedTextTellsUnion, InputNamesAreHeld, InputNamesAreReadable, LinesAreTold, MadeNamesAreHeld, RowsCutTextTellsRows, StoredArePrintable, TextsDiffer, WholeLinesAreTold, WideCutTextTellsRows};
+ghost use Rattle.ucq_print.specs.Laws.{AnsweredTextTellsUnion, BeginningTellsUnion, CountedLinesAreTold, FinishedTextTellsUnion, HeaderIsLine, HeaderTells, HeadersAreNoAnswers, InputLabelsAreLines, InputNamesAreHeld, InputNamesAreReadable, LinesAreTold, MadeNamesAreHeld, RowsCutTextTellsRows, SectionsAreTold, StoredArePrintable, TextsAreSections, TextsDiffer, WholeLinesAreTold, WideCutTextTellsRows};
 
 /// Lines without inner line feeds are told from their join, and what follows too.
 pub fn lines_are_told()
@@ -36,9 +36,29 @@ pub fn texts_differ()
     ensures { TextsDiffer }
 {}
 
+/// The header of a section tells its query's number and label; where the label has no line feed, it is a line.
+pub fn header_tells()
+    ensures tells { HeaderTells }
+    ensures line { HeaderIsLine }
+{}
+
+/// A header that stands behind whole lines in a text of sections is the header of one of them, and what follows begins with its
+/// lines and goes on with the later sections. For no line of a union, of its answers or of a cut begins as a header does. So
+/// what follows a union's lines, where no answers were asked for, is never taken for answers.
+pub fn sections_are_told()
+    ensures told { SectionsAreTold }
+    ensures texts { TextsAreSections }
+    ensures apart { HeadersAreNoAnswers }
+{}
+
 /// The names of what files stand for are such that the finished text tells the union.
 pub fn input_names_are_readable()
     ensures { InputNamesAreReadable }
+{}
+
+/// No label of what files stand for has a line feed, so that each header is a line.
+pub fn input_labels_are_lines()
+    ensures { InputLabelsAreLines }
 {}
 
 /// Every stored query whose predicates and constants have names is such.
@@ -46,7 +66,7 @@ pub fn stored_are_printable()
     ensures { StoredArePrintable }
 {}
 
-/// Every predicate and constant of the rules, of the query and of the facts that files stand for has a name, and so has
+/// Every predicate and constant of the rules, of the queries and of the facts that files stand for has a name, and so has
 /// each of an input that is made.
 pub fn input_names_are_held()
     ensures files { InputNamesAreHeld }

@@ -37,6 +37,7 @@ fn whole_word(which: Whole) -> &'static str
     match which {
         Whole::Rules => "rules",
         Whole::Facts => "facts",
+        Whole::Queries => "queries",
     }
 }
 
@@ -135,9 +136,6 @@ fn refusal(alloc: Global, fault: ReadFault) -> Result<String, AllocError>
         }
         ReadFault::TooMany { which, count } => many_text(alloc, which, count),
         ReadFault::NoQuery => format!(in alloc; "ucq: no query"),
-        ReadFault::ManyQueries { file, number } => {
-            statement_text(alloc, file, number, ": second query")
-        }
         ReadFault::Memory => unreachable!(),
     }
 }

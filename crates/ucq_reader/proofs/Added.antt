@@ -1,5 +1,5 @@
 -- One more statement, as the code holds it.
-use Rattle.std.proofs.Common.{◌≡◌, ◌≢◌, ℕ, ◌+◌, ◌≤◌, ◌<◌, List, [], ◌∷◌, ◌++◌, length, refl, sym, ap, ◌∙◌, subst, arith}
+use Rattle.std.proofs.Common.{◌≡◌, ◌≢◌, ℕ, ◌+◌, ◌-◌, ◌^◌, ◌≤◌, ◌<◌, List, [], ◌∷◌, ◌++◌, length, refl, sym, ap, ◌∙◌, subst, arith}
 use Rattle.std.specs.Prelude.{Option, Result, Ok, Err, OnOk}
 use Rattle.std.proofs.lemmas.List.{length-map}
 use Rattle.std.proofs.lemmas.List.Elements.{Contains-append_left, Contains-append_right}
@@ -18,7 +18,8 @@ use Rattle.ucq_reader.specs.Names.{Declared}
 use Rattle.ucq_reader.specs.Meaning.{Placed, listed, symbol, symbol_atoms, answer_terms}
 use Rattle.ucq_reader.specs.View.{atoms_view, answers_view, label_view, sentence_view, statement_view, declared_view}
 use Rattle.ucq_reader.specs.Gathered.{GatheredValue, IsGathered, IsAccepted}
-use Rattle.ucq_reader.specs.Building.{symbols_in, rule_symbols, query_symbols, written_rule, written_query, HaveFewTerms, IsSafeQuery, AddsFact, AddsRule, AddsQuery}
+use Rattle.ucq_reader.specs.Building.{symbols_in, rule_symbols, query_symbols, written_rule, written_query, written_asked, HaveFewTerms, IsSafeQuery, AddsFact, AddsRule, AddsQuery}
+use Rattle.ucq_reader.proofs.Parsing.{spelling_pos}
 use Rattle.ucq_reader.proofs.Limits.{accepted_limits, few_atoms, have_few_terms, safe_query}
 use Rattle.ucq_reader.proofs.Spelled.{length-spelled, fact_symbols, rule_symbols as rule_spelled, query_spelled}
 use Rattle.ucq_reader.proofs.Gathering.{nothing_gathered, fact_gathered, rule_gathered, query_gathered, names_grown, unknowns_grown}
@@ -53,9 +54,9 @@ module _ (text : List ℕ) (declarations : List Declaration) (form : StatementFo
         subst (λ s. length (symbols_in (symbol_atoms (declared_view text declarations) (atoms_view text atoms))) ≤ length (spelling s)) (sym is.written)
         (length-spelled (declared_view text declarations) _ _ (fact_symbols (declared_view text declarations) (label_view text label) (atoms_view text atoms)))
 
-    pub fact_more : (file place : ℕ) (old new : GatheredValue) → AddsFact (symbol_atoms (declared_view text declarations) (atoms_view text atoms)) old new → (all : List Placed) (starts : List ℕ) →
+    pub fact_more : (old new : GatheredValue) → AddsFact (symbol_atoms (declared_view text declarations) (atoms_view text atoms)) old new → (all : List Placed) (file place : ℕ) (starts : List ℕ) →
         IsGathered all old → IsGathered (all ++ placed_at file place starts (declared_view text declarations) (statement_view text form) ∷ []) new
-    fact_more file place old new adds all starts h =
+    fact_more old new adds all file place starts h =
         let ds = declared_view text declarations in
         subst (λ s. IsGathered (all ++ placed_at file place starts ds s ∷ []) new) (sym is.written)
         (fact_gathered all (placed_at file place starts ds (a_sentence (label_view text label) (a_fact (atoms_view text atoms)))) (symbol_atoms ds (atoms_view text atoms)) old new refl refl refl adds h)
@@ -93,9 +94,9 @@ module _ (text : List ℕ) (declarations : List Declaration) (form : StatementFo
         subst (λ s. length (rule_symbols (written_rule text declarations heads body)) ≤ length (spelling s)) (sym is.written)
         (length-spelled (declared_view text declarations) _ _ (rule_spelled (declared_view text declarations) (label_view text label) (atoms_view text heads) (atoms_view text body)))
 
-    pub rule_more : (file place : ℕ) (old new : GatheredValue) → AddsRule (written_rule text declarations heads body) old new → (all : List Placed) (starts : List ℕ) →
+    pub rule_more : (old new : GatheredValue) → AddsRule (written_rule text declarations heads body) old new → (all : List Placed) (file place : ℕ) (starts : List ℕ) →
         IsGathered all old → IsGathered (all ++ placed_at file place starts (declared_view text declarations) (statement_view text form) ∷ []) new
-    rule_more file place old new adds all starts h =
+    rule_more old new adds all file place starts h =
         let ds = declared_view text declarations in
         subst (λ s. IsGathered (all ++ placed_at file place starts ds s ∷ []) new) (sym is.written)
         (rule_gathered all (placed_at file place starts ds (a_sentence (label_view text label) (a_rule (atoms_view text heads) (atoms_view text body)))) (written_rule text declarations heads body) old new refl refl refl adds h)
@@ -129,16 +130,23 @@ module _ (text : List ℕ) (declarations : List Declaration) (form : StatementFo
         subst (λ s. length (query_symbols (written_query text declarations answers body)) ≤ length (spelling s)) (sym is.written)
         (length-spelled (declared_view text declarations) _ _ (query_spelled (declared_view text declarations) (label_view text label) (answers_view text answers) (atoms_view text body)))
 
-    pub query_more : (file place : ℕ) (old new : GatheredValue) → AddsQuery file place (written_query text declarations answers body) old new → (all : List Placed) (starts : List ℕ) →
+    pub query_more : (old new : GatheredValue) → AddsQuery (written_asked text declarations label answers body) old new → (all : List Placed) (file place : ℕ) (starts : List ℕ) →
         IsGathered all old → IsGathered (all ++ placed_at file place starts (declared_view text declarations) (statement_view text form) ∷ []) new
-    query_more file place old new adds all starts h =
+    query_more old new adds all file place starts h =
         let ds = declared_view text declarations in
         subst (λ s. IsGathered (all ++ placed_at file place starts ds s ∷ []) new) (sym is.written)
-        (query_gathered all (placed_at file place starts ds (a_sentence (label_view text label) (a_query (answers_view text answers) (atoms_view text body)))) (written_query text declarations answers body) old new refl refl refl adds h)
+        (query_gathered all (placed_at file place starts ds (a_sentence (label_view text label) (a_query (answers_view text answers) (atoms_view text body)))) (written_asked text declarations label answers body) old new refl refl refl adds h)
 
-    pub query_names : (file place : ℕ) (old new : GatheredValue) → AddsQuery file place (written_query text declarations answers body) old new →
+    pub query_names : (old new : GatheredValue) → AddsQuery (written_asked text declarations label answers body) old new →
         length new.names ≤ length old.names + length (spelling (statement_view text form))
-    query_names file place old new adds = omega (arith, names_grown old.names new.names (query_symbols (written_query text declarations answers body)) adds.names, query_count)
+    query_names old new adds = omega (arith, names_grown old.names new.names (query_symbols (written_query text declarations answers body)) adds.names, query_count)
+
+    -- a query has words
+    pub query_room : (asked : ℕ) → asked + length (spelling (statement_view text form)) < 2 ^ 32 - 1 → asked + 1 < 2 ^ 32
+    query_room asked l = omega (arith, l, spelling_pos (statement_view text form))
+
+    pub query_asked : (old new : GatheredValue) → AddsQuery (written_asked text declarations label answers body) old new → new.asked ≤ old.asked + length (spelling (statement_view text form))
+    query_asked old new adds = omega (arith, adds.asked, spelling_pos (statement_view text form))
 
   -- ---- constraints are refused
   pub no_constraint : (body : SeveralForm AtomForm) → IsSentence text form label (a_constraint (atoms_view text body)) → IsAccepted (declared_view text declarations) (statement_view text form) → ⊥
@@ -148,10 +156,10 @@ module _ (text : List ℕ) (declarations : List Declaration) (form : StatementFo
 
 -- ---- other lines stand for nothing
 
-pub line_more : (text : List ℕ) (declarations : List Declaration) (form : StatementForm) → ((label : Option Token) (sentence : SentenceForm) → form ≢ statements.Sentence label sentence) → (file place : ℕ) (g : GatheredValue) (all : List Placed) (starts : List ℕ) →
+pub line_more : (text : List ℕ) (declarations : List Declaration) (form : StatementForm) → ((label : Option Token) (sentence : SentenceForm) → form ≢ statements.Sentence label sentence) → (g : GatheredValue) (all : List Placed) (file place : ℕ) (starts : List ℕ) →
     IsGathered all g → IsGathered (all ++ placed_at file place starts (declared_view text declarations) (statement_view text form) ∷ []) g
-line_more text declarations (statements.Section kind) other file place g all starts h = nothing_gathered all _ g refl refl refl refl h
-line_more text declarations (statements.Prefix name iri dotted) other file place g all starts h = nothing_gathered all _ g refl refl refl refl h
-line_more text declarations (statements.Base iri dotted) other file place g all starts h = nothing_gathered all _ g refl refl refl refl h
-line_more text declarations (statements.Top name dotted) other file place g all starts h = nothing_gathered all _ g refl refl refl refl h
-line_more text declarations (statements.Sentence label sentence) other file place g all starts h = absurd (other label sentence refl)
+line_more text declarations (statements.Section kind) other g all file place starts h = nothing_gathered all _ g refl refl refl refl h
+line_more text declarations (statements.Prefix name iri dotted) other g all file place starts h = nothing_gathered all _ g refl refl refl refl h
+line_more text declarations (statements.Base iri dotted) other g all file place starts h = nothing_gathered all _ g refl refl refl refl h
+line_more text declarations (statements.Top name dotted) other g all file place starts h = nothing_gathered all _ g refl refl refl refl h
+line_more text declarations (statements.Sentence label sentence) other g all file place starts h = absurd (other label sentence refl)

@@ -1,18 +1,19 @@
--- What is gathered of all statements: too much, or not one query, or the input.
-use Rattle.std.proofs.Common.{◌≡◌, ℕ, ◌+◌, ◌<◌, ◌≤◌, ◌^◌, map, List, [], ◌∷◌, length, Option, Some, None, Result, refl, sym, ap, subst, ◌∙◌, arith}
-use Rattle.std.specs.Prelude.{Err, Bool, true, false, IsTrue, IsSome, ◌↔◌}
-use Rattle.std.specs.List.{flat_map, filter_map, enumerate_from}
-use Rattle.std.proofs.lemmas.Bool.{lt-ltb, le-ltb, true≢false}
-use Rattle.std.proofs.lemmas.List.{length-append, length-map}
+-- What is gathered of all statements: too much, or no query, or the input.
+use Rattle.std.proofs.Common.{◌≡◌, ℕ, ◌+◌, ◌<◌, ◌≤◌, map, List, [], ◌∷◌, length, take, Option, Some, None, refl, sym, ap, subst, ◌∙◌, arith}
+use Rattle.std.specs.Prelude.{Ok, Err}
+use Rattle.std.specs.List.{AllZip, flat_map, filter_map, enumerate_from}
+use Rattle.std.proofs.lemmas.Bool.{lt-ltb, le-ltb}
+use Rattle.std.proofs.lemmas.List.{length-append, length-map, take_all}
 use Rattle.std.proofs.lemmas.List.Sums.{sum_by-cons}
-use Rattle.ucq_terms.specs.Syntax.{Query}
+use Rattle.std.proofs.lemmas.Slice.Zip.{AllZip-long}
+use Rattle.ucq_terms.specs.declared.TheConstants.{FACTS, QUERIES, RULES}
 use Rattle.ucq_reader.specs.declared.ReadFault.{ReadFault}
-use Rattle.ucq_reader.specs.declared.ReadFault.TheVariants.{TooMany, NoQuery, ManyQueries}
+use Rattle.ucq_reader.specs.declared.ReadFault.TheVariants.{TooMany, NoQuery}
 use Rattle.ucq_reader.specs.declared.Whole.TheVariants as wholes
 use Rattle.ucq_reader.specs.Statement.{a_section, a_prefix, a_base, a_top, a_sentence, a_fact, a_rule, a_query, a_constraint, Statement, spelling}
-use Rattle.ucq_reader.specs.Meaning.{SymbolAtom, SymbolQuery, Meant, Placed, listed, symbol_atom, symbol_atoms, rule_of, fact_of, texts_of, asking, count_fault, asked, unless, meant}
-use Rattle.ucq_reader.specs.Input.{atom_value, rule_value, IsQueryOf}
-use Rattle.ucq_reader.specs.Gathered.{GatheredValue, IsFirstQuery, second_place, IsGathered}
+use Rattle.ucq_reader.specs.Meaning.{SymbolAtom, SymbolAsked, Placed, listed, symbol_atom, symbol_atoms, rule_of, fact_of, texts_of, asked_of, count_fault, with_queries, unless, meant}
+use Rattle.ucq_reader.specs.Input.{atom_value, rule_value, IsAskedOf}
+use Rattle.ucq_reader.specs.Gathered.{GatheredValue, IsGathered}
 use Rattle.ucq_reader.specs.Outcome.{word_count, IsWhole}
 use Rattle.ucq_reader.proofs.Parsing.{spelling_pos}
 use Rattle.ucq_reader.proofs.Sizes.{atoms_length, sentence_length}
@@ -76,67 +77,71 @@ facts_few (p ∷ rest) = omega (arith, fact_words p rest, facts_few rest, sum_by
 
 -- ---- the refusals of the whole
 
-rules_fault : (all : List Placed) (n : ℕ) → rule_total all ≡ n → 4096 < n → count_fault all ≡ Some (TooMany wholes.Rules n)
-rules_fault all n e h = rw e (rw (lt-ltb 4096 n h) refl)
+abbrev pub query_total : List Placed → ℕ
+query_total all = length (filter_map asked_of all)
 
-facts_fault : (all : List Placed) (r n : ℕ) → rule_total all ≡ r → fact_total all ≡ n → r ≤ 4096 → 2 ^ 20 < n → count_fault all ≡ Some (TooMany wholes.Facts n)
-facts_fault all r n e f h k = rw (e, f) (rw (le-ltb 4096 r h, lt-ltb (2 ^ 20) n k) refl)
+rules_fault : (all : List Placed) (n : ℕ) → rule_total all ≡ n → RULES < n → count_fault all ≡ Some (TooMany wholes.Rules n)
+rules_fault all n e h = rw e (rw (lt-ltb RULES n h) refl)
 
-no_fault : (all : List Placed) (r n : ℕ) → rule_total all ≡ r → fact_total all ≡ n → r ≤ 4096 → n ≤ 2 ^ 20 → count_fault all ≡ None
-no_fault all r n e f h k = rw (e, f) (rw (le-ltb 4096 r h, le-ltb (2 ^ 20) n k) refl)
+facts_fault : (all : List Placed) (r n : ℕ) → rule_total all ≡ r → fact_total all ≡ n → r ≤ RULES → FACTS < n → count_fault all ≡ Some (TooMany wholes.Facts n)
+facts_fault all r n e f h k = rw (e, f) (rw (le-ltb RULES r h, lt-ltb FACTS n k) refl)
 
-pub many_rules : (all : List Placed) (g : GatheredValue) (n : ℕ) → IsGathered all g → n ≡ length g.rules → 4096 < n → meant all ≡ Err (TooMany wholes.Rules n)
-many_rules all g n h e lt = ap (λ (o : Option ReadFault). unless o (asked all (filter_map asking all))) (rules_fault all n (sym (e ∙ rules_gathered all g h)) lt)
+queries_fault : (all : List Placed) (r n q : ℕ) → rule_total all ≡ r → fact_total all ≡ n → query_total all ≡ q → r ≤ RULES → n ≤ FACTS → QUERIES < q → count_fault all ≡ Some (TooMany wholes.Queries q)
+queries_fault all r n q e f g h k l = rw (e, f, g) (rw (le-ltb RULES r h, le-ltb FACTS n k, lt-ltb QUERIES q l) refl)
 
-pub many_facts : (all : List Placed) (g : GatheredValue) (r n : ℕ) → IsGathered all g → r ≡ length g.rules → n ≡ length g.facts → r ≤ 4096 → 2 ^ 20 < n → meant all ≡ Err (TooMany wholes.Facts n)
-many_facts all g r n h e f le lt = ap (λ (o : Option ReadFault). unless o (asked all (filter_map asking all))) (facts_fault all r n (sym (e ∙ rules_gathered all g h)) (sym (f ∙ facts_gathered all g h)) le lt)
+no_fault : (all : List Placed) (r n q : ℕ) → rule_total all ≡ r → fact_total all ≡ n → query_total all ≡ q → r ≤ RULES → n ≤ FACTS → q ≤ QUERIES → count_fault all ≡ None
+no_fault all r n q e f g h k l = rw (e, f, g) (rw (le-ltb RULES r h, le-ltb FACTS n k, le-ltb QUERIES q l) refl)
 
-pub few_enough : (all : List Placed) (g : GatheredValue) (r n : ℕ) → IsGathered all g → r ≡ length g.rules → n ≡ length g.facts → r ≤ 4096 → n ≤ 2 ^ 20 → meant all ≡ asked all (filter_map asking all)
-few_enough all g r n h e f le lf = ap (λ (o : Option ReadFault). unless o (asked all (filter_map asking all))) (no_fault all r n (sym (e ∙ rules_gathered all g h)) (sym (f ∙ facts_gathered all g h)) le lf)
+none_asked : (all : List Placed) (asks : List SymbolAsked) → length asks ≡ 0 → with_queries all asks ≡ Err NoQuery
+none_asked all [] e = refl
+none_asked all (q ∷ more) e = absurd (omega (arith, e))
 
-none_asked : (names : List (List ℕ)) (asks : List (Placed × SymbolQuery)) (query : Option Query) → IsFirstQuery names asks query → query ≡ None → asks ≡ []
-none_asked names [] query h e = refl
-none_asked names (a ∷ rest) query (q, is, of) e = absurd (some_none q (sym is ∙ e))
-  where
-    some_none : (q : Query) → Some q ≡ None → ⊥
-    some_none q f = cc
+some_asked : (all : List Placed) (asks : List SymbolAsked) → 0 < length asks →
+    with_queries all asks ≡ Ok (record { texts = flat_map texts_of all; rules = filter_map rule_of all; queries = asks; facts = filter_map fact_of all })
+some_asked all [] l = absurd (omega (arith, l))
+some_asked all (q ∷ more) l = refl
 
-pub no_query : (all : List Placed) (g : GatheredValue) → IsGathered all g → meant all ≡ asked all (filter_map asking all) → g.query ≡ None → meant all ≡ Err NoQuery
-no_query all g h e none = e ∙ ap (asked all) (none_asked g.names (filter_map asking all) g.query h.query none)
+counted : (all : List Placed) (o : Option ReadFault) → count_fault all ≡ o → meant all ≡ unless o (with_queries all (filter_map asked_of all))
+counted all o = ap (λ (x : Option ReadFault). unless x (with_queries all (filter_map asked_of all)))
 
-abbrev refused : ReadFault → Result Meant ReadFault
-refused fault = Err fault
+-- what is gathered, by its counts
+module _ (all : List Placed) (g : GatheredValue) (r n : ℕ) (h : IsGathered all g) (e : r ≡ length g.rules) where
+  pub many_rules : RULES < r → meant all ≡ Err (TooMany wholes.Rules r)
+  many_rules l = counted all (Some (TooMany wholes.Rules r)) (rules_fault all r (sym (e ∙ rules_gathered all g h)) l)
 
-second_asked : (all : List Placed) (asks : List (Placed × SymbolQuery)) (file number : ℕ) → Some (file, number) ≡ second_place asks → asked all asks ≡ Err (ManyQueries file number)
-second_asked all [] file number e = absurd cc
-second_asked all (a ∷ []) file number e = absurd cc
-second_asked all (a ∷ b ∷ rest) file number e =
-    let place : (file, number) ≡ (b.0.file, b.0.number) = cc in
-    ap (λ (p : ℕ × ℕ). refused (ManyQueries p.0 p.1)) (sym place)
+  module _ (few_rules : r ≤ RULES) (f : n ≡ length g.facts) where
+    pub many_facts : FACTS < n → meant all ≡ Err (TooMany wholes.Facts n)
+    many_facts l = counted all (Some (TooMany wholes.Facts n)) (facts_fault all r n (sym (e ∙ rules_gathered all g h)) (sym (f ∙ facts_gathered all g h)) few_rules l)
 
-pub many_queries : (all : List Placed) (g : GatheredValue) (file number : ℕ) → IsGathered all g → meant all ≡ asked all (filter_map asking all) → g.second ≡ Some (file, number) → meant all ≡ Err (ManyQueries file number)
-many_queries all g file number h e second = e ∙ second_asked all (filter_map asking all) file number (sym second ∙ h.second)
+    module _ (few_facts : n ≤ FACTS) where
+      pub many_queries : (q : ℕ) → q ≡ g.asked → QUERIES < q → meant all ≡ Err (TooMany wholes.Queries q)
+      many_queries q k l =
+          counted all (Some (TooMany wholes.Queries q))
+          (queries_fault all r n q (sym (e ∙ rules_gathered all g h)) (sym (f ∙ facts_gathered all g h)) (sym (k ∙ h.asked)) few_rules few_facts l)
 
--- ---- the input
+      few_enough : g.asked ≤ QUERIES → meant all ≡ with_queries all (filter_map asked_of all)
+      few_enough l = counted all None (no_fault all r n g.asked (sym (e ∙ rules_gathered all g h)) (sym (f ∙ facts_gathered all g h)) (sym h.asked) few_rules few_facts l)
 
-one_asked : (names : List (List ℕ)) (asks : List (Placed × SymbolQuery)) (query : Option Query) → IsFirstQuery names asks query → (query ≡ None → ⊥) → second_place asks ≡ None → (a : Placed × SymbolQuery) × (q : Query) × (asks ≡ a ∷ []) × (query ≡ Some q) × IsQueryOf names a.1 q
-one_asked names [] query h some e = absurd (some h)
-one_asked names (a ∷ []) query (q, is, of) some e = (a, q, refl, is, of)
-one_asked names (a ∷ b ∷ rest) query h some e = absurd cc
+      pub no_query : g.asked ≡ 0 → meant all ≡ Err NoQuery
+      no_query none = few_enough (omega (arith, none)) ∙ none_asked all (filter_map asked_of all) (sym h.asked ∙ none)
 
-pub one_query : (all : List Placed) (g : GatheredValue) → IsGathered all g → meant all ≡ asked all (filter_map asking all) → (g.query ≡ None → ⊥) → g.second ≡ None → IsWhole all g None
-one_query all g h e some none =
-    let one = one_asked g.names (filter_map asking all) g.query h.query some (sym h.second ∙ none) in (
-      record { texts = flat_map texts_of all; rules = filter_map rule_of all; query = one.0.1; facts = filter_map fact_of all },
-      e ∙ ap (asked all) one.2,
-      (one.1, one.3, record { names = h.names; rules = h.rules; query = one.4; unknown = h.facts.unknown; apart = h.facts.apart; facts = h.facts.facts }),
-    )
+      pub some_queries : 0 < g.asked → g.asked ≤ QUERIES → IsWhole all g None
+      some_queries some few =
+          let asks = filter_map asked_of all in (
+            record { texts = flat_map texts_of all; rules = filter_map rule_of all; queries = asks; facts = filter_map fact_of all },
+            few_enough few ∙ some_asked all asks (omega (arith, some, h.asked)),
+            record {
+              names = h.names;
+              rules = h.rules;
+              queries = subst (λ l. AllZip (IsAskedOf g.names) l g.queries) (take_all QUERIES asks (omega (arith, few, h.asked))) h.queries;
+              unknown = h.facts.unknown;
+              apart = h.facts.apart;
+              facts = h.facts.facts;
+            },
+          )
 
--- ---- what the test for a query tells
-
-pub no_query_by : (b : Bool) (q : Option Query) → (IsTrue b ↔ IsSome q) → b ≡ false → q ≡ None
-no_query_by b None h e = refl
-no_query_by b (Some x) h e = absurd (true≢false (sym (h.1 refl) ∙ e))
-
-pub a_query_by : (b : Bool) (q : Option Query) → (IsTrue b ↔ IsSome q) → b ≡ true → q ≡ None → ⊥
-a_query_by b q h e none = true≢false (sym (subst IsSome none (h.0 e)))
+-- as many queries are kept as were asked, if these are few
+pub queries_held : (all : List Placed) (g : GatheredValue) → IsGathered all g → g.asked ≤ QUERIES → length g.queries ≡ g.asked
+queries_held all g h few =
+    AllZip-long (IsAskedOf g.names) (take QUERIES (filter_map asked_of all)) g.queries h.queries ∙
+    (ap length (take_all QUERIES (filter_map asked_of all) (omega (arith, few, h.asked))) ∙ sym h.asked)

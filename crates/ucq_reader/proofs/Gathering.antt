@@ -1,23 +1,25 @@
 -- What is gathered, with one more statement.
-use Rattle.std.proofs.Common.{◌≡◌, ℕ, zero, suc, ◌+◌, ◌≤◌, ◌<◌, cond, nat_lt, List, [], ◌∷◌, ◌++◌, map, length, Contains, refl, sym, ap, ap₂, ◌∙◌, subst, arith, append_assoc, inl, inr, ◌⊎◌}
+use Rattle.std.proofs.Common.{◌≡◌, ℕ, zero, suc, ◌+◌, ◌≤◌, ◌<◌, cond, nat_lt, Bool, true, false, List, [], ◌∷◌, ◌++◌, map, length, take, drop, Contains, refl, sym, ap, ap₂, ◌∙◌, subst, arith, append_assoc, inl, inr, ◌⊎◌}
 use Rattle.std.specs.Prelude.{Option, Some, None}
-use Rattle.std.specs.List.{filter_map, flat_map, enumerate_from, cons_option}
+use Rattle.std.specs.List.{AllZip, filter_map, flat_map, enumerate_from, cons_option}
 use Rattle.std.specs.Str.{bytes_eq}
-use Rattle.std.proofs.lemmas.Bool.{lt-ltb, le-ltb}
-use Rattle.std.proofs.lemmas.List.{append-nil, map-append, length-append}
+use Rattle.std.proofs.lemmas.Bool.{lt-ltb, le-ltb, ltb-true, ltb-false}
+use Rattle.std.proofs.lemmas.List.{append-nil, map-append, length-append, take_all, take-append-le, take-append-drop}
 use Rattle.std.proofs.lemmas.List.Concat.{flat_map-append}
 use Rattle.std.proofs.lemmas.List.Elements.{filter_map-append, Contains-append_left, Contains-append_right}
+use Rattle.ucq_terms.specs.declared.TheConstants.{QUERIES}
 use Rattle.ucq_terms.specs.declared.Term.TheVariants.{Constant}
 use Rattle.ucq_terms.specs.Syntax.{Atom, Query, IsSameSet}
 use Rattle.ucq_terms.proofs.Decide.{atom_path}
 use Rattle.ucq_terms.proofs.Lists.{Contains-first, Contains-rest, Contains-cons_cases, Contains-empty, Contains-flat_map, map-same_on}
 use Rattle.ucq_terms.proofs.Numbering.{with_elements-append, with_elements_keep, position_keeps, position_below, position_same, any_from_contains, Contains-first_occurrences, length-with_elements}
 use Rattle.ucq_terms.proofs.Texts.{IsEquality-bytes_eq}
+use Rattle.ucq_reader.specs.declared.input.Asked.{Asked}
 use Rattle.ucq_reader.specs.Names.{number, in_order}
-use Rattle.ucq_reader.specs.Meaning.{Symbol, constant, variable, SymbolAtom, SymbolRule, SymbolQuery, Placed, mapped, texts_of, rule_of, query_of, fact_of, asking}
-use Rattle.ucq_reader.specs.Input.{variable_text, variables_in, terms_in, term_value, atom_value, rule_value, IsQueryOf, StandsIn}
-use Rattle.ucq_reader.specs.Gathered.{GatheredValue, AreFactsOf, IsFirstQuery, second_place, IsGathered}
-use Rattle.ucq_reader.specs.Building.{constants_of, atom_symbols, symbols_in, query_symbols, with_names, place_in, AddsFact, AddsRule, AddsQuery, IsAsked}
+use Rattle.ucq_reader.specs.Meaning.{Symbol, constant, variable, SymbolAtom, SymbolRule, SymbolQuery, SymbolAsked, Placed, texts_of, rule_of, asked_of, fact_of}
+use Rattle.ucq_reader.specs.Input.{variable_text, variables_in, terms_in, term_value, atom_value, rule_value, IsQueryOf, IsAskedOf, StandsIn}
+use Rattle.ucq_reader.specs.Gathered.{GatheredValue, AreFactsOf, IsGathered}
+use Rattle.ucq_reader.specs.Building.{constants_of, atom_symbols, symbols_in, query_symbols, with_names, place_in, AddsFact, AddsRule, AddsQuery}
 use Rattle.ucq_reader.proofs.Built.{length-constants, length-variables}
 use Rattle.ucq_reader.proofs.Renumbering.{Contains-variable_texts}
 use Rattle.ucq_reader.proofs.Spelled.{fact_texts, rule_texts, query_texts}
@@ -95,6 +97,12 @@ holds_statement names all p symbols e i f = record {
       subst (λ l. Contains l t) (sym e)
       (Contains-first_occurrences bytes_eq IsEquality-bytes_eq (flat_map texts_of all) t (Contains-flat_map texts_of all p t i (subst (λ l. Contains l t) (sym f) j)));
 }
+
+zip_push : {A B : Type 0} (R : A → B → Type 0) (xs : List A) (ys : List B) (x : A) (y : B) → AllZip R xs ys → R x y → AllZip R (xs ++ x ∷ []) (ys ++ y ∷ [])
+zip_push R [] [] x y h r = (r, tt)
+zip_push R [] (b ∷ ys) x y h r = absurd h
+zip_push R (a ∷ xs) [] x y h r = absurd h
+zip_push R (a ∷ xs) (b ∷ ys) x y h r = (h.0, zip_push R xs ys x y h.1 r)
 
 -- ---- one more statement, part by part
 
@@ -230,57 +238,63 @@ module _ (names : List (List ℕ)) (meant : List (List SymbolAtom)) (unknowns : 
 
 -- ---- queries
 
-mapped_some : {A B : Type 0} (f : A → B) (o : Option A) (b : B) → mapped f o ≡ Some b → (a : A) × (o ≡ Some a) × (f a ≡ b)
-mapped_some f None b e = absurd cc
-mapped_some f (Some a) b e = (a, refl, cc)
-
-pub mapped-none : {A B : Type 0} (f : A → B) (o : Option A) → o ≡ None → mapped f o ≡ None
-mapped-none f o e = ap (mapped f) e
-
 -- the texts of a query that was asked are held
-holds_asked : (names : List (List ℕ)) (all : List Placed) (asked : Placed × SymbolQuery) → names ≡ in_order (flat_map texts_of all) → Contains (filter_map asking all) asked → Holds names (query_symbols asked.1)
-holds_asked names all asked e i =
-    let (p, j, f) = from_filter_map asking all asked i in
-    let (q, g, h) = mapped_some (λ (x : SymbolQuery). (p, x)) (query_of p) asked f in
-    subst (λ (x : Placed × SymbolQuery). Holds names (query_symbols x.1)) h (holds_statement names all p (query_symbols q) e j (query_texts p q g))
+holds_asked : (names : List (List ℕ)) (all : List Placed) (asked : SymbolAsked) → names ≡ in_order (flat_map texts_of all) → Contains (filter_map asked_of all) asked → Holds names (query_symbols asked.query)
+holds_asked names all asked e i = let (p, j, f) = from_filter_map asked_of all asked i in holds_statement names all p (query_symbols asked.query) e j (query_texts p asked f)
 
-queries_kept : (names more : List (List ℕ)) (asked : List (Placed × SymbolQuery)) (query : Option Query) → ((a : Placed × SymbolQuery) → Contains asked a → Holds names (query_symbols a.1)) →
-    IsFirstQuery names asked query → IsFirstQuery (names ++ more) asked query
-queries_kept names more [] query h is = is
-queries_kept names more (a ∷ rest) query h is = (is.0, is.1, query_kept names more a.1 is.0 (h a (Contains-first a rest)) is.2)
+queries_kept : (names more : List (List ℕ)) (asked : List SymbolAsked) (held : List Asked) → ((a : SymbolAsked) → Contains asked a → Holds names (query_symbols a.query)) →
+    AllZip (IsAskedOf names) asked held → AllZip (IsAskedOf (names ++ more)) asked held
+queries_kept names more [] [] h is = is
+queries_kept names more [] (x ∷ xs) h is = absurd is
+queries_kept names more (a ∷ rest) [] h is = absurd is
+queries_kept names more (a ∷ rest) (x ∷ xs) h is = (
+  record { label = is.0.label; query = query_kept names more a.query x.query (h a (Contains-first a rest)) is.0.query },
+  queries_kept names more rest xs (λ b i. h b (Contains-rest a rest b i)) is.1,
+)
 
--- one more query
-asked_more : (p : Placed) (q : SymbolQuery) (names : List (List ℕ)) (asked : List (Placed × SymbolQuery)) (old new : Option Query) (second noted : Option (ℕ × ℕ)) →
-    IsFirstQuery names asked old → second ≡ second_place asked → IsAsked p.file p.number q names old second new noted →
-    IsFirstQuery names (asked ++ (p, q) ∷ []) new × (noted ≡ second_place (asked ++ (p, q) ∷ []))
-asked_more p q names [] old new second noted is none h =
-    let first = subst (λ o. IsAsked p.file p.number q names o second new noted) is h in
-    ((first.0, first.1, first.2), first.3 ∙ none)
-asked_more p q names (a ∷ []) old new second noted is none h =
-    let later = subst (λ o. IsAsked p.file p.number q names (Some is.0) o new noted) none (subst (λ o. IsAsked p.file p.number q names o second new noted) is.1 h) in
-    ((is.0, later.0, is.2), later.1)
-asked_more p q names (a ∷ b ∷ rest) old new second noted is some h =
-    let later = subst (λ o. IsAsked p.file p.number q names (Some is.0) o new noted) some (subst (λ o. IsAsked p.file p.number q names o second new noted) is.1 h) in
-    ((is.0, later.0, is.2), later.1)
+-- and so are those that are kept
+asked_kept : (n : ℕ) (all : List Placed) (names more : List (List ℕ)) (held : List Asked) → names ≡ in_order (flat_map texts_of all) →
+    AllZip (IsAskedOf names) (take n (filter_map asked_of all)) held → AllZip (IsAskedOf (names ++ more)) (take n (filter_map asked_of all)) held
+asked_kept n all names more held e h =
+    queries_kept names more (take n (filter_map asked_of all)) held
+    (λ a i.
+    let among = Contains-append_left (take n (filter_map asked_of all)) (drop n (filter_map asked_of all)) a i in
+    holds_asked names all a e (subst (λ l. Contains l a) (take-append-drop n (filter_map asked_of all)) among)) h
+
+-- one more query, which is kept while there are fewer than n
+asked_more : (names : List (List ℕ)) (n : ℕ) (asked : List SymbolAsked) (q : SymbolAsked) (old new : List Asked) → AllZip (IsAskedOf names) (take n asked) old →
+    (length asked < n → (held : Asked) × (new ≡ old ++ held ∷ []) × IsAskedOf names q held) → (n ≤ length asked → new ≡ old) → AllZip (IsAskedOf names) (take n (asked ++ q ∷ [])) new
+asked_more names n asked q old new h kept passed = go (nat_lt (length asked) n) refl
+  where
+    go : (b : Bool) → nat_lt (length asked) n ≡ b → AllZip (IsAskedOf names) (take n (asked ++ q ∷ [])) new
+    go true e =
+        let few : length asked < n = ltb-true (length asked) n e in
+        let (held, grown, is) = kept few in
+        let before = subst (λ l. AllZip (IsAskedOf names) l old) (take_all n asked (omega (arith, few))) h in
+        subst (λ l. AllZip (IsAskedOf names) l new) (sym (take_all n (asked ++ q ∷ []) (omega (arith, few, length-append asked (q ∷ [])))))
+        (subst (AllZip (IsAskedOf names) (asked ++ q ∷ [])) (sym grown) (zip_push (IsAskedOf names) asked old q held before is))
+    go false e =
+        let many : n ≤ length asked = ltb-false (length asked) n e in
+        subst (λ l. AllZip (IsAskedOf names) l new) (sym (take-append-le n asked (q ∷ []) many)) (subst (AllZip (IsAskedOf names) (take n asked)) (sym (passed many)) h)
 
 -- ---- one more statement
 
 -- a statement that stands for nothing
-pub nothing_gathered : (all : List Placed) (p : Placed) (g : GatheredValue) → texts_of p ≡ [] → rule_of p ≡ None → fact_of p ≡ None → query_of p ≡ None → IsGathered all g → IsGathered (all ++ p ∷ []) g
+pub nothing_gathered : (all : List Placed) (p : Placed) (g : GatheredValue) → texts_of p ≡ [] → rule_of p ≡ None → fact_of p ≡ None → asked_of p ≡ None → IsGathered all g → IsGathered (all ++ p ∷ []) g
 nothing_gathered all p g texts rule fact query h = record {
   names = names_more all p g.names g.names [] h.names texts refl;
   rules = h.rules ∙ ap (map (rule_value g.names)) (sym (filter_map-none rule_of all p rule));
   facts = subst (λ l. AreFactsOf g.names l g.unknowns g.facts) (sym (filter_map-none fact_of all p fact)) h.facts;
-  query = subst (λ l. IsFirstQuery g.names l g.query) (sym (filter_map-none asking all p (mapped-none _ (query_of p) query))) h.query;
-  second = h.second ∙ ap second_place (sym (filter_map-none asking all p (mapped-none _ (query_of p) query)));
+  queries = subst (λ l. AllZip (IsAskedOf g.names) (take QUERIES l) g.queries) (sym (filter_map-none asked_of all p query)) h.queries;
+  asked = h.asked ∙ ap length (sym (filter_map-none asked_of all p query));
 }
 
-pub fact_gathered : (all : List Placed) (p : Placed) (f : List SymbolAtom) (old new : GatheredValue) → fact_of p ≡ Some f → rule_of p ≡ None → query_of p ≡ None → AddsFact f old new →
+pub fact_gathered : (all : List Placed) (p : Placed) (f : List SymbolAtom) (old new : GatheredValue) → fact_of p ≡ Some f → rule_of p ≡ None → asked_of p ≡ None → AddsFact f old new →
     IsGathered all old → IsGathered (all ++ p ∷ []) new
 fact_gathered all p f old new fact rule query adds h =
     let (more, grown) = with_elements_keep bytes_eq old.names (constants_of (symbols_in f)) in
     let names : new.names ≡ old.names ++ more = adds.names ∙ grown in
-    let no_query = filter_map-none asking all p (mapped-none _ (query_of p) query) in
+    let no_query = filter_map-none asked_of all p query in
     let facts = facts_added (old.names ++ more) (filter_map fact_of all) old.unknowns old.facts (facts_kept all old.names more old.unknowns old.facts h.names h.facts) f in
     record {
       names = names_more all p old.names new.names (constants_of (symbols_in f)) h.names (fact_texts p f fact) adds.names;
@@ -292,20 +306,20 @@ fact_gathered all p f old new fact rule query adds h =
           (subst (λ k. AreFactsOf new.names (filter_map fact_of all ++ f ∷ []) k new.facts) (sym adds.unknowns)
           (subst (λ l. AreFactsOf new.names (filter_map fact_of all ++ f ∷ []) (old.unknowns + length (variables_in (terms_in f))) l) (sym adds.facts)
           (subst (λ n. AreFactsOf n (filter_map fact_of all ++ f ∷ []) (old.unknowns + length (variables_in (terms_in f))) (old.facts ++ map (atom_value n (place_in old.unknowns (variables_in (terms_in f)))) f)) (sym names) facts)));
-      query =
-          subst (λ l. IsFirstQuery new.names l new.query) (sym no_query)
-          (subst (λ o. IsFirstQuery new.names (filter_map asking all) o) (sym adds.query)
-          (subst (λ n. IsFirstQuery n (filter_map asking all) old.query) (sym names) (queries_kept old.names more (filter_map asking all) old.query (λ a i. holds_asked old.names all a h.names i) h.query)));
-      second = adds.second ∙ (h.second ∙ ap second_place (sym no_query));
+      queries =
+          subst (λ l. AllZip (IsAskedOf new.names) (take QUERIES l) new.queries) (sym no_query)
+          (subst (AllZip (IsAskedOf new.names) (take QUERIES (filter_map asked_of all))) (sym adds.queries)
+          (subst (λ n. AllZip (IsAskedOf n) (take QUERIES (filter_map asked_of all)) old.queries) (sym names) (asked_kept QUERIES all old.names more old.queries h.names h.queries)));
+      asked = adds.asked ∙ (h.asked ∙ ap length (sym no_query));
     }
 
-pub rule_gathered : (all : List Placed) (p : Placed) (r : SymbolRule) (old new : GatheredValue) → rule_of p ≡ Some r → fact_of p ≡ None → query_of p ≡ None → AddsRule r old new →
+pub rule_gathered : (all : List Placed) (p : Placed) (r : SymbolRule) (old new : GatheredValue) → rule_of p ≡ Some r → fact_of p ≡ None → asked_of p ≡ None → AddsRule r old new →
     IsGathered all old → IsGathered (all ++ p ∷ []) new
 rule_gathered all p r old new rule fact query adds h =
     let symbols = symbols_in r.heads ++ symbols_in r.body in
     let (more, grown) = with_elements_keep bytes_eq old.names (constants_of symbols) in
     let names : new.names ≡ old.names ++ more = adds.names ∙ grown in
-    let no_query = filter_map-none asking all p (mapped-none _ (query_of p) query) in
+    let no_query = filter_map-none asked_of all p query in
     let kept : old.rules ≡ map (rule_value new.names) (filter_map rule_of all) = h.rules ∙ (sym (rules_kept all old.names more h.names) ∙ ap (λ n. map (rule_value n) (filter_map rule_of all)) (sym names)) in
     record {
       names = names_more all p old.names new.names (constants_of symbols) h.names (rule_texts p r rule) adds.names;
@@ -317,24 +331,23 @@ rule_gathered all p r old new rule fact query adds h =
           (subst (λ k. AreFactsOf new.names (filter_map fact_of all) k new.facts) (sym adds.unknowns)
           (subst (λ l. AreFactsOf new.names (filter_map fact_of all) old.unknowns l) (sym adds.facts)
           (subst (λ n. AreFactsOf n (filter_map fact_of all) old.unknowns old.facts) (sym names) (facts_kept all old.names more old.unknowns old.facts h.names h.facts))));
-      query =
-          subst (λ l. IsFirstQuery new.names l new.query) (sym no_query)
-          (subst (λ o. IsFirstQuery new.names (filter_map asking all) o) (sym adds.query)
-          (subst (λ n. IsFirstQuery n (filter_map asking all) old.query) (sym names) (queries_kept old.names more (filter_map asking all) old.query (λ a i. holds_asked old.names all a h.names i) h.query)));
-      second = adds.second ∙ (h.second ∙ ap second_place (sym no_query));
+      queries =
+          subst (λ l. AllZip (IsAskedOf new.names) (take QUERIES l) new.queries) (sym no_query)
+          (subst (AllZip (IsAskedOf new.names) (take QUERIES (filter_map asked_of all))) (sym adds.queries)
+          (subst (λ n. AllZip (IsAskedOf n) (take QUERIES (filter_map asked_of all)) old.queries) (sym names) (asked_kept QUERIES all old.names more old.queries h.names h.queries)));
+      asked = adds.asked ∙ (h.asked ∙ ap length (sym no_query));
     }
 
-pub query_gathered : (all : List Placed) (p : Placed) (q : SymbolQuery) (old new : GatheredValue) → query_of p ≡ Some q → fact_of p ≡ None → rule_of p ≡ None → AddsQuery p.file p.number q old new →
+pub query_gathered : (all : List Placed) (p : Placed) (q : SymbolAsked) (old new : GatheredValue) → asked_of p ≡ Some q → fact_of p ≡ None → rule_of p ≡ None → AddsQuery q old new →
     IsGathered all old → IsGathered (all ++ p ∷ []) new
 query_gathered all p q old new query fact rule adds h =
-    let symbols = query_symbols q in
+    let symbols = query_symbols q.query in
     let (more, grown) = with_elements_keep bytes_eq old.names (constants_of symbols) in
     let names : new.names ≡ old.names ++ more = adds.names ∙ grown in
-    let one : asking p ≡ Some (p, q) = ap (mapped (λ (x : SymbolQuery). (p, x))) query in
-    let asked = filter_map-some {X = Placed} {Y = Placed × SymbolQuery} asking all p (p, q) one in
-    let kept : IsFirstQuery new.names (filter_map asking all) old.query =
-    subst (λ n. IsFirstQuery n (filter_map asking all) old.query) (sym names) (queries_kept old.names more (filter_map asking all) old.query (λ a i. holds_asked old.names all a h.names i) h.query) in
-    let now = asked_more p q new.names (filter_map asking all) old.query new.query old.second new.second kept h.second adds.asked in
+    let asked = filter_map-some asked_of all p q query in
+    let kept : AllZip (IsAskedOf new.names) (take QUERIES (filter_map asked_of all)) old.queries =
+    subst (λ n. AllZip (IsAskedOf n) (take QUERIES (filter_map asked_of all)) old.queries) (sym names) (asked_kept QUERIES all old.names more old.queries h.names h.queries) in
+    let now = asked_more new.names QUERIES (filter_map asked_of all) q old.queries new.queries kept (λ l. adds.kept (omega (arith, h.asked, l))) (λ l. adds.passed (omega (arith, h.asked, l))) in
     record {
       names = names_more all p old.names new.names (constants_of symbols) h.names (query_texts p q query) adds.names;
       rules =
@@ -345,8 +358,8 @@ query_gathered all p q old new query fact rule adds h =
           (subst (λ k. AreFactsOf new.names (filter_map fact_of all) k new.facts) (sym adds.unknowns)
           (subst (λ l. AreFactsOf new.names (filter_map fact_of all) old.unknowns l) (sym adds.facts)
           (subst (λ n. AreFactsOf n (filter_map fact_of all) old.unknowns old.facts) (sym names) (facts_kept all old.names more old.unknowns old.facts h.names h.facts))));
-      query = subst (λ l. IsFirstQuery new.names l new.query) (sym asked) now.0;
-      second = now.1 ∙ ap second_place (sym asked);
+      queries = subst (λ l. AllZip (IsAskedOf new.names) (take QUERIES l) new.queries) (sym asked) now;
+      asked = omega (arith, adds.asked, h.asked, ap length asked, length-append (filter_map asked_of all) (q ∷ []));
     }
 
 -- how far names and unknown values grow

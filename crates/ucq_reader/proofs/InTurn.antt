@@ -1,11 +1,9 @@
 -- The files are read in turn.
 use Rattle.std.proofs.Common.{◌≡◌, ℕ, ◌+◌, ◌<◌, ◌≤◌, List, [], ◌∷◌, ◌++◌, length, drop, get_or, Option, Some, None, refl, sym, ap, subst, ◌∙◌, append_assoc, arith}
 use Rattle.std.proofs.lemmas.List.{append-nil, at_drop_more, at_drop_all, length-map, get_or-map}
-use Rattle.std.proofs.lemmas.Option.{same_Some}
 use Rattle.std.proofs.lemmas.List.Sums.{sum_by-cons, sum_by-append}
 use Rattle.std.specs.declared.vec.Vec.{Vec}
 use Rattle.std.specs.declared.alloc.Global.{Global}
-use Rattle.ucq_terms.specs.Syntax.{Atom, Rule, Query}
 use Rattle.ucq_reader.specs.declared.ReadFault.{ReadFault}
 use Rattle.ucq_reader.specs.Statement.{spelling}
 use Rattle.ucq_reader.specs.Meaning.{Placed, FileRead, parsed, placed_from, placed, file_fault, files_fault, first_of, unless, meant, meaning}
@@ -24,9 +22,10 @@ pub record IsReadTo (files : List (List ℕ)) (file : ℕ) (g : GatheredValue) :
   pub few : word_count all + byte_count (drop file files) ≤ byte_count files
   pub names : length g.names + byte_count (drop file files) ≤ byte_count files
   pub unknowns : g.unknowns + byte_count (drop file files) ≤ byte_count files
+  pub asked : g.asked + byte_count (drop file files) ≤ byte_count files
 
-pub start : (files : List (List ℕ)) (g : GatheredValue) → IsGathered [] g → g.names ≡ [] → g.unknowns ≡ 0 → IsReadTo files 0 g
-start files g h names unknowns = record {
+pub start : (files : List (List ℕ)) (g : GatheredValue) → IsGathered [] g → g.names ≡ [] → g.unknowns ≡ 0 → g.asked ≡ 0 → IsReadTo files 0 g
+start files g h names unknowns asked = record {
   reads = [];
   all = [];
   goes_on = λ later r. r;
@@ -36,6 +35,7 @@ start files g h names unknowns = record {
   few = omega arith;
   names = omega (arith, ap length names);
   unknowns = omega (arith, unknowns);
+  asked = omega (arith, asked);
 }
 
 -- ---- the next file
@@ -53,9 +53,10 @@ pub record HasRoom (text : List ℕ) (g : GatheredValue) (bytes : ℕ) : Type 0 
   pub small : length text ≤ bytes
   pub names : length g.names + length text ≤ bytes
   pub unknowns : g.unknowns + length text ≤ bytes
+  pub asked : g.asked + length text ≤ bytes
 
 pub room : (files : List (List ℕ)) (file : ℕ) (g : GatheredValue) (text : List ℕ) → IsReadTo files file g → drop file files ≡ text ∷ drop (file + 1) files → HasRoom text g (byte_count files)
-room files file g text t e = let here = bytes_here files file text e in record { small = omega (arith, t.few, here); names = omega (arith, t.names, here); unknowns = omega (arith, t.unknowns, here) }
+room files file g text t e = let here = bytes_here files file text e in record { small = omega (arith, t.few, here); names = omega (arith, t.names, here); unknowns = omega (arith, t.unknowns, here); asked = omega (arith, t.asked, here) }
 
 no_fault_here : (file : ℕ) (read : FileRead) (later : List FileRead) → file_fault file read ≡ None → files_fault file (read ∷ later) ≡ files_fault (file + 1) later
 no_fault_here file read later e = ap (λ (o : Option ReadFault). first_of (o ∷ files_fault (file + 1) later ∷ [])) e ∙ alone (files_fault (file + 1) later)
@@ -81,6 +82,7 @@ step files file old new text t e done =
       few = omega (arith, t.few, here, words, done.few);
       names = omega (arith, t.names, here, done.grown.names);
       unknowns = omega (arith, t.unknowns, here, done.grown.unknowns);
+      asked = omega (arith, t.asked, here, done.grown.asked);
     }
 
 -- the file's refusal is that of the files
@@ -107,18 +109,10 @@ pub record ArePartsOf (g : GatheredValue) (input : InputValue) : Type 0 where
   pub names : input.names ≡ g.names
   pub rules : input.rules ≡ g.rules
   pub facts : input.facts ≡ g.facts
-  pub query : g.query ≡ Some input.query
+  pub queries : input.queries ≡ g.queries
 
-abbrev made : List (List ℕ) → List Rule → Query → List Atom → InputValue
-made names rules query facts = record { names = names; rules = rules; query = query; facts = facts }
-
-same_query : (a b : Query) → Some a ≡ Some b → a ≡ b
-same_query a b e = same_Some a b e
-
-pub parts : (g : GatheredValue) (input : InputValue) (q : Query) → ArePartsOf g input → g.query ≡ Some q → record { names = g.names; rules = g.rules; query = q; facts = g.facts } ≡ input
-parts g input q p e =
-    let same : q ≡ input.query = same_query q input.query (sym e ∙ p.query) in
-    ap (λ (x : Query). made g.names g.rules x g.facts) same ∙ (ap (λ (x : List (List ℕ)). made x g.rules input.query g.facts) (sym p.names) ∙ (ap (λ (x : List Rule). made input.names x input.query g.facts) (sym p.rules) ∙ ap (λ (x : List Atom). made input.names input.rules input.query x) (sym p.facts)))
+pub parts : (g : GatheredValue) (input : InputValue) → ArePartsOf g input → record { names = g.names; rules = g.rules; queries = g.queries; facts = g.facts } ≡ input
+parts g input p = λ i. record { names = sym p.names i; rules = sym p.rules i; queries = sym p.queries i; facts = sym p.facts i }
 
 pub whole_input : (files : List (List ℕ)) (file : ℕ) (g : GatheredValue) (t : IsReadTo files file g) → length files ≤ file → IsWhole t.all g None → (input : InputValue) → ArePartsOf g input → IsInput files input
-whole_input files file g t h (m, e, (q, is, numbered)) input p = (m, (t.reads ++ [], all_read files file g t h, sym (means files file g t ∙ e)), subst (IsNumbered m) (parts g input q p is) numbered)
+whole_input files file g t h (m, e, numbered) input p = (m, (t.reads ++ [], all_read files file g t h, sym (means files file g t ∙ e)), subst (IsNumbered m) (parts g input p) numbered)

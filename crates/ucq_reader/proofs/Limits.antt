@@ -42,7 +42,7 @@ find_none p (y ∷ ys) h x i = go (λ k j. find_none p ys k x j) (p y) refl h
     go r true e k = absurd cc
     go r false e k = elim (Contains-cons_cases y ys x i) [ inl f ↦ ap p (sym f) ∙ e | inr j ↦ r k j ]
 
-within_limit : (most : ℕ) (counts : List ℕ) → first_above most counts ≡ None → (n : ℕ) → Contains counts n → n ≤ most
+pub within_limit : (most : ℕ) (counts : List ℕ) → first_above most counts ≡ None → (n : ℕ) → Contains counts n → n ≤ most
 within_limit most counts h n i = ltb-false most n (find_none (λ k. nat_lt most k) counts h n i)
 
 any_member : {A : Type 0} (p : A → Bool) (xs : List A) → list_any p xs ≡ true → (x : A) × Contains xs x × (p x ≡ true)

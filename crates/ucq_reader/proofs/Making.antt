@@ -1,11 +1,13 @@
 -- Inputs that are made statement after statement.
-use Rattle.std.proofs.Common.{◌≡◌, ℕ, ◌+◌, ◌*◌, ◌≤◌, ◌<◌, List, [], ◌∷◌, ◌++◌, map, length, refl, sym, ap, ap₂, ◌∙◌, subst, arith, append_assoc, Contains, inl, inr}
-use Rattle.std.specs.Prelude.{Option, Some, None, codes}
-use Rattle.std.specs.List.{filter_map, flat_map, range_with_len}
+use Rattle.std.proofs.Common.{◌≡◌, ℕ, ◌+◌, ◌*◌, ◌≤◌, ◌<◌, List, [], ◌∷◌, ◌++◌, map, length, take, refl, sym, ap, ap₂, ◌∙◌, subst, arith, append_assoc, Contains, inl, inr}
+use Rattle.std.specs.Prelude.{Some, None, codes}
+use Rattle.std.specs.List.{AllZip, flat_map, range_with_len}
 use Rattle.std.specs.Str.{bytes_eq}
-use Rattle.std.proofs.lemmas.List.{append-nil, map-append, length-append}
+use Rattle.std.proofs.lemmas.List.{append-nil, length-append}
 use Rattle.std.proofs.lemmas.List.Concat.{flat_map-append}
 use Rattle.std.proofs.lemmas.List.FromFn.{map-range_with_len_more}
+use Rattle.std.proofs.lemmas.Slice.Zip.{AllZip-long}
+use Rattle.ucq_terms.specs.declared.TheConstants.{QUERIES}
 use Rattle.ucq_terms.specs.declared.Term.{Term}
 use Rattle.ucq_terms.specs.declared.Term.TheVariants.{Constant, Variable}
 use Rattle.ucq_terms.specs.Syntax.{Atom, Query, IsSafe}
@@ -16,16 +18,16 @@ use Rattle.ucq_terms.proofs.Lists.{Contains-first, Contains-cons_cases, Contains
 use Rattle.ucq_terms.proofs.Numbering.{with_elements_keep, length-with_elements}
 use Rattle.ucq_reader.specs.Names.{number, in_order}
 use Rattle.ucq_reader.specs.Statement.{Several, TermSyntax, a_variable, a_name, by_identifier, AtomSyntax, Sentence, a_fact, a_rule, a_query, a_sentence}
-use Rattle.ucq_reader.specs.Meaning.{Symbol, constant, variable, SymbolAtom, SymbolRule, SymbolQuery, Placed, mapped, texts_of, rule_of, query_of, fact_of, asking}
-use Rattle.ucq_reader.specs.Input.{terms_in, term_value, atom_value, rule_value, IsQueryOf, InputValue, IsNumbered}
-use Rattle.ucq_reader.specs.Gathered.{GatheredValue, AreFactsOf, IsFirstQuery}
+use Rattle.ucq_reader.specs.Meaning.{Symbol, constant, variable, SymbolAtom, SymbolRule, SymbolAsked, Placed, texts_of, rule_of, asked_of, fact_of}
+use Rattle.ucq_reader.specs.Input.{terms_in, term_value, atom_value, rule_value, IsQueryOf, IsAskedOf, InputValue, IsNumbered}
+use Rattle.ucq_reader.specs.Gathered.{GatheredValue, AreFactsOf}
 use Rattle.ucq_reader.specs.Building.{with_names, IsNumberOf, IsSafeQuery, AddsFact, AddsRule, AddsQuery}
 use Rattle.ucq_reader.specs.Made.{numbered, x, y, unary, binary, chain_rule, last_rule, made_query, pair_fact, last_fact, made_rules, made_facts, made, rule_texts, query_texts, fact_texts}
-use Rattle.ucq_reader.specs.inner.Making.{place, IsMadeAtom, AreMadeAtoms, all_texts, IsMadeOf, HasChain, HasRules, HasPairs, HasFacts}
+use Rattle.ucq_reader.specs.inner.Making.{place, IsMadeAtom, AreMadeAtoms, unlabelled, asked_texts, all_texts, IsMadeOf, HasChain, HasRules, HasPairs, HasFacts}
 use Rattle.ucq_reader.proofs.Built.{number_lasts}
 use Rattle.ucq_reader.proofs.Renumbering.{rule-again, query-again}
 use Rattle.ucq_reader.proofs.Sentences.{safe_values}
-use Rattle.ucq_reader.proofs.Gathering.{filter_map-none, filter_map-some, mapped-none, rule_gathered, query_gathered, fact_gathered}
+use Rattle.ucq_reader.proofs.Gathering.{filter_map-none, filter_map-some, rule_gathered, query_gathered, fact_gathered}
 use Rattle.ucq_reader.proofs.InTurn.{ArePartsOf, parts}
 use Rattle.ucq_reader.proofs.Spelled as spelled
 
@@ -176,10 +178,7 @@ texts_more all p texts more e f = flat_map-append texts_of all (p ∷ []) ∙ ap
 flat_map-push : {A : Type 0} (f : A → List (List ℕ)) (xs : List A) (x : A) → flat_map f (xs ++ x ∷ []) ≡ flat_map f xs ++ f x
 flat_map-push f xs x = flat_map-append f xs (x ∷ []) ∙ ap (λ l. flat_map f xs ++ l) (append-nil (f x))
 
-abbrev queries_of : List (Placed × SymbolQuery) → List SymbolQuery
-queries_of asks = map (λ (asked : Placed × SymbolQuery). asked.1) asks
-
-rule_step : (rules : List SymbolRule) (p : Placed) (r : SymbolRule) (old new : GatheredValue) → rule_of p ≡ Some r → fact_of p ≡ None → query_of p ≡ None → AddsRule r old new → IsMadeOf rules [] [] old → IsMadeOf (rules ++ r ∷ []) [] [] new
+rule_step : (rules : List SymbolRule) (p : Placed) (r : SymbolRule) (old new : GatheredValue) → rule_of p ≡ Some r → fact_of p ≡ None → asked_of p ≡ None → AddsRule r old new → IsMadeOf rules [] [] old → IsMadeOf (rules ++ r ∷ []) [] [] new
 rule_step rules p r old new rule fact query adds h = record {
   all = h.all ++ p ∷ [];
   gathered = rule_gathered h.all p r old new rule fact query adds h.gathered;
@@ -187,32 +186,28 @@ rule_step rules p r old new rule fact query adds h = record {
       texts_more h.all p (all_texts rules [] []) (rule_texts r) h.texts (spelled.rule_texts p r rule) ∙
       (ap (λ l. l ++ rule_texts r) (append-nil (flat_map rule_texts rules)) ∙ (sym (flat_map-push rule_texts rules r) ∙ sym (append-nil (flat_map rule_texts (rules ++ r ∷ [])))));
   rules_are = filter_map-some rule_of h.all p r rule ∙ ap (λ l. l ++ r ∷ []) h.rules_are;
-  queries_are = ap queries_of (filter_map-none asking h.all p (mapped-none _ (query_of p) query)) ∙ h.queries_are;
+  queries_are = filter_map-none asked_of h.all p query ∙ h.queries_are;
   facts_are = filter_map-none fact_of h.all p fact ∙ h.facts_are;
 }
 
-query_step : (rules : List SymbolRule) (p : Placed) (q : SymbolQuery) (old new : GatheredValue) → query_of p ≡ Some q → fact_of p ≡ None → rule_of p ≡ None → AddsQuery p.file p.number q old new → IsMadeOf rules [] [] old →
-    IsMadeOf rules (q ∷ []) [] new
-query_step rules p q old new query fact rule adds h =
-    let one : asking p ≡ Some (p, q) = ap (mapped (λ (x : SymbolQuery). (p, x))) query in
-    let asked = filter_map-some {X = Placed} {Y = Placed × SymbolQuery} asking h.all p (p, q) one in
-    record {
-      all = h.all ++ p ∷ [];
-      gathered = query_gathered h.all p q old new query fact rule adds h.gathered;
-      texts =
-          texts_more h.all p (all_texts rules [] []) (query_texts q) h.texts (spelled.query_texts p q query) ∙
-          (ap (λ l. l ++ query_texts q) (append-nil (flat_map rule_texts rules)) ∙
-          ap (λ l. flat_map rule_texts rules ++ l) (sym (append-nil (query_texts q ++ []) ∙ append-nil (query_texts q))));
-      rules_are = filter_map-none rule_of h.all p rule ∙ h.rules_are;
-      queries_are = ap queries_of asked ∙ (map-append (λ (x : Placed × SymbolQuery). x.1) (filter_map asking h.all) ((p, q) ∷ []) ∙ ap (λ l. l ++ q ∷ []) h.queries_are);
-      facts_are = filter_map-none fact_of h.all p fact ∙ h.facts_are;
-    }
+query_step : (rules : List SymbolRule) (p : Placed) (q : SymbolAsked) (old new : GatheredValue) → asked_of p ≡ Some q → fact_of p ≡ None → rule_of p ≡ None → AddsQuery q old new → IsMadeOf rules [] [] old → IsMadeOf rules (q ∷ []) [] new
+query_step rules p q old new query fact rule adds h = record {
+  all = h.all ++ p ∷ [];
+  gathered = query_gathered h.all p q old new query fact rule adds h.gathered;
+  texts =
+      texts_more h.all p (all_texts rules [] []) (asked_texts q) h.texts (spelled.query_texts p q query) ∙
+      (ap (λ l. l ++ asked_texts q) (append-nil (flat_map rule_texts rules)) ∙
+      ap (λ l. flat_map rule_texts rules ++ l) (sym (append-nil (asked_texts q ++ []) ∙ append-nil (asked_texts q))));
+  rules_are = filter_map-none rule_of h.all p rule ∙ h.rules_are;
+  queries_are = filter_map-some asked_of h.all p q query ∙ ap (λ l. l ++ q ∷ []) h.queries_are;
+  facts_are = filter_map-none fact_of h.all p fact ∙ h.facts_are;
+}
 
-fact_step : (rules : List SymbolRule) (queries : List SymbolQuery) (facts : List (List SymbolAtom)) (p : Placed) (f : List SymbolAtom) (old new : GatheredValue) → fact_of p ≡ Some f → rule_of p ≡ None → query_of p ≡ None → AddsFact f old new →
+fact_step : (rules : List SymbolRule) (queries : List SymbolAsked) (facts : List (List SymbolAtom)) (p : Placed) (f : List SymbolAtom) (old new : GatheredValue) → fact_of p ≡ Some f → rule_of p ≡ None → asked_of p ≡ None → AddsFact f old new →
     IsMadeOf rules queries facts old → IsMadeOf rules queries (facts ++ f ∷ []) new
 fact_step rules queries facts p f old new fact rule query adds h =
     let rs = flat_map rule_texts rules in
-    let qs = flat_map query_texts queries in
+    let qs = flat_map asked_texts queries in
     let fs = flat_map fact_texts facts in
     record {
       all = h.all ++ p ∷ [];
@@ -222,7 +217,7 @@ fact_step rules queries facts p f old new fact rule query adds h =
           (append_assoc rs (qs ++ fs) (fact_texts f) ∙
           ap (λ l. rs ++ l) (append_assoc qs fs (fact_texts f) ∙ ap (λ l. qs ++ l) (sym (flat_map-push fact_texts facts f))));
       rules_are = filter_map-none rule_of h.all p rule ∙ h.rules_are;
-      queries_are = ap queries_of (filter_map-none asking h.all p (mapped-none _ (query_of p) query)) ∙ h.queries_are;
+      queries_are = filter_map-none asked_of h.all p query ∙ h.queries_are;
       facts_are = filter_map-some fact_of h.all p f fact ∙ ap (λ l. l ++ f ∷ []) h.facts_are;
     }
 
@@ -279,7 +274,7 @@ chain_more i old new adds h = record {
   made =
       subst (λ l. IsMadeOf l [] [] new) (sym (map-range_with_len_more chain_rule 0 i i (omega arith)))
       (rule_step (map chain_rule (range_with_len 0 i)) (chain_stated i) (chain_rule i) old new refl refl refl adds h.made);
-  query = adds.query ∙ h.query;
+  asked = adds.asked ∙ h.asked;
   rules = omega (arith, ap length adds.rules, length-append old.rules (rule_value new.names (chain_rule i) ∷ []), h.rules);
   facts = ap length adds.facts ∙ h.facts;
   names = names_within old.names new.names (rule_texts (chain_rule i)) (2 * (i + 1)) adds.names (omega (arith, h.names));
@@ -288,15 +283,15 @@ chain_more i old new adds h = record {
 pub rules_done : (n : ℕ) (old new : GatheredValue) → AddsRule last_rule old new → HasChain n old → HasRules n new
 rules_done n old new adds h = record {
   made = rule_step (map chain_rule (range_with_len 0 n)) last_stated last_rule old new refl refl refl adds h.made;
-  query = adds.query ∙ h.query;
+  asked = adds.asked ∙ h.asked;
   rules = omega (arith, ap length adds.rules, length-append old.rules (rule_value new.names last_rule ∷ []), h.rules);
   facts = ap length adds.facts ∙ h.facts;
   names = names_within old.names new.names (rule_texts last_rule) (2 * n + 3) adds.names (omega (arith, h.names));
 }
 
-pub query_done : (n : ℕ) (old new : GatheredValue) → AddsQuery 0 0 made_query old new → HasRules n old → HasPairs n 0 new
+pub query_done : (n : ℕ) (old new : GatheredValue) → AddsQuery (unlabelled made_query) old new → HasRules n old → HasPairs n 0 new
 query_done n old new adds h = record {
-  made = query_step (made_rules n) query_stated made_query old new refl refl refl adds h.made;
+  made = query_step (made_rules n) query_stated (unlabelled made_query) old new refl refl refl adds h.made;
   rules = ap length adds.rules ∙ h.rules;
   facts = ap length adds.facts ∙ h.facts;
   names = names_within old.names new.names (query_texts made_query) (2 * n + 5 + 5 * 0) adds.names (omega (arith, h.names));
@@ -305,8 +300,8 @@ query_done n old new adds h = record {
 pub pair_more : (n i : ℕ) (old new : GatheredValue) → AddsFact (pair_fact i) old new → HasPairs n i old → HasPairs n (i + 1) new
 pair_more n i old new adds h = record {
   made =
-      subst (λ l. IsMadeOf (made_rules n) (made_query ∷ []) l new) (sym (map-range_with_len_more pair_fact 0 i i (omega arith)))
-      (fact_step (made_rules n) (made_query ∷ []) (map pair_fact (range_with_len 0 i)) (pair_stated i) (pair_fact i) old new refl refl refl adds h.made);
+      subst (λ l. IsMadeOf (made_rules n) (unlabelled made_query ∷ []) l new) (sym (map-range_with_len_more pair_fact 0 i i (omega arith)))
+      (fact_step (made_rules n) (unlabelled made_query ∷ []) (map pair_fact (range_with_len 0 i)) (pair_stated i) (pair_fact i) old new refl refl refl adds h.made);
   rules = ap length adds.rules ∙ h.rules;
   facts = omega (arith, ap length adds.facts, length-append old.facts (map (atom_value new.names place) (pair_fact i)), h.facts);
   names = names_within old.names new.names (fact_texts (pair_fact i)) (2 * n + 5 + 5 * (i + 1)) adds.names (omega (arith, h.names));
@@ -314,29 +309,29 @@ pair_more n i old new adds h = record {
 
 pub facts_done : (n : ℕ) (old new : GatheredValue) → AddsFact last_fact old new → HasPairs n (n + 1) old → HasFacts n new
 facts_done n old new adds h = record {
-  made = fact_step (made_rules n) (made_query ∷ []) (map pair_fact (range_with_len 0 (n + 1))) fact_stated last_fact old new refl refl refl adds h.made;
+  made = fact_step (made_rules n) (unlabelled made_query ∷ []) (map pair_fact (range_with_len 0 (n + 1))) fact_stated last_fact old new refl refl refl adds h.made;
   rules = ap length adds.rules ∙ h.rules;
   facts = omega (arith, ap length adds.facts, length-append old.facts (map (atom_value new.names place) last_fact), h.facts);
 }
 
 -- ---- the input
 
-first_query : (names : List (List ℕ)) (asks : List (Placed × SymbolQuery)) (q : SymbolQuery) (query : Option Query) → queries_of asks ≡ q ∷ [] → IsFirstQuery names asks query → (held : Query) × (query ≡ Some held) × IsQueryOf names q held
-first_query names [] q query e is = absurd cc
-first_query names (a ∷ rest) q query e is = let same : a.1 ≡ q = cc in (is.0, is.1, subst (λ (s : SymbolQuery). IsQueryOf names s is.0) same is.2)
-
 pub made_numbered : (n : ℕ) (g : GatheredValue) (input : InputValue) → HasFacts n g → ArePartsOf g input → IsNumbered (made n) input
 made_numbered n g input h p =
     let m = h.made in
-    let (held, is, asked) = first_query g.names (filter_map asking m.all) made_query g.query m.queries_are m.gathered.query in
+    let queries = subst (λ l. AllZip (IsAskedOf g.names) (take QUERIES l) g.queries) m.queries_are m.gathered.queries in
     let facts = subst (λ l. AreFactsOf g.names l g.unknowns g.facts) m.facts_are m.gathered.facts in
     let texts : flat_map texts_of m.all ≡ flat_map rule_texts (made_rules n) ++ (query_texts made_query ++ flat_map fact_texts (made_facts n)) =
     m.texts ∙ ap (λ (l : List (List ℕ)). flat_map rule_texts (made_rules n) ++ (l ++ flat_map fact_texts (made_facts n))) (append-nil (query_texts made_query)) in
-    subst (IsNumbered (made n)) (parts g input held p is) (record {
+    subst (IsNumbered (made n)) (parts g input p) (record {
       names = m.gathered.names ∙ ap in_order texts;
       rules = m.gathered.rules ∙ ap (map (rule_value g.names)) m.rules_are;
-      query = asked;
+      queries = queries;
       unknown = facts.unknown;
       apart = facts.apart;
       facts = facts.facts;
     })
+
+-- it has one query
+pub one_query : (n : ℕ) (input : InputValue) → IsNumbered (made n) input → length input.queries ≡ 1
+one_query n input is = AllZip-long (IsAskedOf input.names) (made n).queries input.queries is.queries

@@ -2,7 +2,7 @@
 use Rattle.std.proofs.Common.{◌≡◌, ℕ, List, Result, refl}
 use Rattle.std.specs.Prelude.{Ok, Err}
 use Rattle.ucq_reader.specs.declared.ReadFault.{ReadFault}
-use Rattle.ucq_reader.specs.declared.ReadFault.TheVariants.{BadByte, BadStatement, OpenEnd, UnknownPrefix, NotBuilt, Limit, Unsafe, TooMany, NoQuery, ManyQueries, Memory}
+use Rattle.ucq_reader.specs.declared.ReadFault.TheVariants.{BadByte, BadStatement, OpenEnd, UnknownPrefix, NotBuilt, Limit, Unsafe, TooMany, NoQuery, Memory}
 use Rattle.ucq_reader.specs.Meaning.{Meant}
 use Rattle.ucq_reader.specs.Input.{IsMeaning}
 use Rattle.ucq_reader.specs.Outcome.{IsFault}
@@ -31,4 +31,3 @@ never_refused files meant (Limit file number which count) is refused = absurd (n
 never_refused files meant (Unsafe file number place) is refused = absurd (not_both files meant (Unsafe file number place) is refused)
 never_refused files meant (TooMany which count) is refused = absurd (not_both files meant (TooMany which count) is refused)
 never_refused files meant NoQuery is refused = absurd (not_both files meant NoQuery is refused)
-never_refused files meant (ManyQueries file number) is refused = absurd (not_both files meant (ManyQueries file number) is refused)

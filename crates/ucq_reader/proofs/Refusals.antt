@@ -5,7 +5,7 @@ use Rattle.std.proofs.lemmas.List.{append-nil, length-append}
 use Rattle.ucq_lexer.specs.declared.Token.{Token}
 use Rattle.ucq_lexer.proofs.Reading.{spelling_unique, bad_byte_unique, bad_byte_or_tokens}
 use Rattle.ucq_reader.specs.declared.ReadFault.{ReadFault}
-use Rattle.ucq_reader.specs.declared.ReadFault.TheVariants.{BadByte, BadStatement, OpenEnd, UnknownPrefix, NotBuilt, Limit, Unsafe, TooMany, NoQuery, ManyQueries, Memory}
+use Rattle.ucq_reader.specs.declared.ReadFault.TheVariants.{BadByte, BadStatement, OpenEnd, UnknownPrefix, NotBuilt, Limit, Unsafe, TooMany, NoQuery, Memory}
 use Rattle.ucq_reader.specs.Statement.{Word, dot, Statement, spelling}
 use Rattle.ucq_reader.specs.File.{TakesDot, Reads, AreStatements, IsFront, IsInside, IsBadStatement, IsOpenEnd}
 use Rattle.ucq_reader.specs.Meaning.{Meant, FileRead, malformed, parsed, file_fault, meaning}
@@ -148,7 +148,6 @@ read_unique file text (malformed (Limit f n w c)) b p q = absurd p
 read_unique file text (malformed (Unsafe f n r)) b p q = absurd p
 read_unique file text (malformed (TooMany w c)) b p q = absurd p
 read_unique file text (malformed NoQuery) b p q = absurd p
-read_unique file text (malformed (ManyQueries f n)) b p q = absurd p
 read_unique file text (malformed Memory) b p q = absurd p
 read_unique file text (parsed ss xs) (malformed (UnknownPrefix f to)) p q = absurd q
 read_unique file text (parsed ss xs) (malformed (NotBuilt f n k)) p q = absurd q
@@ -156,7 +155,6 @@ read_unique file text (parsed ss xs) (malformed (Limit f n w c)) p q = absurd q
 read_unique file text (parsed ss xs) (malformed (Unsafe f n r)) p q = absurd q
 read_unique file text (parsed ss xs) (malformed (TooMany w c)) p q = absurd q
 read_unique file text (parsed ss xs) (malformed NoQuery) p q = absurd q
-read_unique file text (parsed ss xs) (malformed (ManyQueries f n)) p q = absurd q
 read_unique file text (parsed ss xs) (malformed Memory) p q = absurd q
 read_unique file text (malformed (BadByte g at)) (malformed (UnknownPrefix f to)) p q = absurd q
 read_unique file text (malformed (BadByte g at)) (malformed (NotBuilt f n k)) p q = absurd q
@@ -164,7 +162,6 @@ read_unique file text (malformed (BadByte g at)) (malformed (Limit f n w c)) p q
 read_unique file text (malformed (BadByte g at)) (malformed (Unsafe f n r)) p q = absurd q
 read_unique file text (malformed (BadByte g at)) (malformed (TooMany w c)) p q = absurd q
 read_unique file text (malformed (BadByte g at)) (malformed NoQuery) p q = absurd q
-read_unique file text (malformed (BadByte g at)) (malformed (ManyQueries f n)) p q = absurd q
 read_unique file text (malformed (BadByte g at)) (malformed Memory) p q = absurd q
 read_unique file text (malformed (BadStatement g i at)) (malformed (UnknownPrefix f to)) p q = absurd q
 read_unique file text (malformed (BadStatement g i at)) (malformed (NotBuilt f n k)) p q = absurd q
@@ -172,7 +169,6 @@ read_unique file text (malformed (BadStatement g i at)) (malformed (Limit f n w 
 read_unique file text (malformed (BadStatement g i at)) (malformed (Unsafe f n r)) p q = absurd q
 read_unique file text (malformed (BadStatement g i at)) (malformed (TooMany w c)) p q = absurd q
 read_unique file text (malformed (BadStatement g i at)) (malformed NoQuery) p q = absurd q
-read_unique file text (malformed (BadStatement g i at)) (malformed (ManyQueries f n)) p q = absurd q
 read_unique file text (malformed (BadStatement g i at)) (malformed Memory) p q = absurd q
 read_unique file text (malformed (OpenEnd g at)) (malformed (UnknownPrefix f to)) p q = absurd q
 read_unique file text (malformed (OpenEnd g at)) (malformed (NotBuilt f n k)) p q = absurd q
@@ -180,7 +176,6 @@ read_unique file text (malformed (OpenEnd g at)) (malformed (Limit f n w c)) p q
 read_unique file text (malformed (OpenEnd g at)) (malformed (Unsafe f n r)) p q = absurd q
 read_unique file text (malformed (OpenEnd g at)) (malformed (TooMany w c)) p q = absurd q
 read_unique file text (malformed (OpenEnd g at)) (malformed NoQuery) p q = absurd q
-read_unique file text (malformed (OpenEnd g at)) (malformed (ManyQueries f n)) p q = absurd q
 read_unique file text (malformed (OpenEnd g at)) (malformed Memory) p q = absurd q
 
 pub are_read_unique : (file : ℕ) (texts : List (List ℕ)) (a b : List FileRead) → AreRead file texts a → AreRead file texts b → a ≡ b

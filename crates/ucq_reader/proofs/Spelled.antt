@@ -7,7 +7,7 @@ use Rattle.std.proofs.lemmas.List.Elements.{filter_map-append}
 use Rattle.ucq_reader.specs.Statement.{Word, variable, identifier, iri, prefixed, integer, text, closing, dot, if_sign, NameSyntax, by_identifier, by_iri, by_prefixed, TermSyntax, a_variable, a_name, an_integer, a_text, AtomSyntax, Several, a_fact, a_rule, a_query, a_sentence, Sentence, Statement}
 use Rattle.ucq_reader.specs.Statement.{name_word, term_word, more_terms, terms_words, atom_words, more_atoms, atoms_words, answers_words, sentence_words, label_words, spelling}
 use Rattle.ucq_reader.specs.Names.{Declared, name_text, word_text, expanded}
-use Rattle.ucq_reader.specs.Meaning.{Symbol, constant, SymbolAtom, SymbolRule, SymbolQuery, Placed, symbol, symbol_atom, symbol_atoms, listed, answer_terms, texts_of, rule_of, query_of, fact_of}
+use Rattle.ucq_reader.specs.Meaning.{Symbol, constant, SymbolAtom, SymbolRule, SymbolQuery, SymbolAsked, Placed, symbol, symbol_atom, symbol_atoms, listed, answer_terms, texts_of, rule_of, asked_of, fact_of}
 use Rattle.ucq_reader.specs.Meaning.{variable as variable_symbol}
 use Rattle.ucq_reader.specs.Building.{constants_of, atom_symbols, symbols_in, query_symbols}
 
@@ -144,13 +144,13 @@ rule_texts p r e = go p.file p.number p.starts p.before p.statement r e
         ap (λ (x : SymbolRule). constants_of (symbols_in x.heads ++ symbols_in x.body)) same
     go file number starts ds _ r e = absurd cc
 
-pub query_texts : (p : Placed) (q : SymbolQuery) → query_of p ≡ Some q → texts_of p ≡ constants_of (query_symbols q)
+pub query_texts : (p : Placed) (q : SymbolAsked) → asked_of p ≡ Some q → texts_of p ≡ constants_of (query_symbols q.query)
 query_texts p q e = go p.file p.number p.starts p.before p.statement q e
   where
-    go : (file number : ℕ) (starts : List ℕ) (ds : Declared) (s : Statement) (q : SymbolQuery) → query_of (record { file = file; number = number; starts = starts; before = ds; statement = s }) ≡ Some q →
-        texts_of (record { file = file; number = number; starts = starts; before = ds; statement = s }) ≡ constants_of (query_symbols q)
+    go : (file number : ℕ) (starts : List ℕ) (ds : Declared) (s : Statement) (q : SymbolAsked) → asked_of (record { file = file; number = number; starts = starts; before = ds; statement = s }) ≡ Some q →
+        texts_of (record { file = file; number = number; starts = starts; before = ds; statement = s }) ≡ constants_of (query_symbols q.query)
     go file number starts ds (a_sentence l (a_query answers body)) q e =
         let written : SymbolQuery = record { answers = map (symbol ds) (answer_terms answers); atoms = symbol_atoms ds body } in
-        let same : written ≡ q = cc in
-        sentence_texts file number starts ds l (a_query answers body) (query_symbols written) (query_spelled ds l answers body) ∙ ap (λ (x : SymbolQuery). constants_of (query_symbols x)) same
+        let same : (record { label = l; query = written }) ≡ q = cc in
+        sentence_texts file number starts ds l (a_query answers body) (query_symbols written) (query_spelled ds l answers body) ∙ ap (λ (x : SymbolAsked). constants_of (query_symbols x.query)) same
     go file number starts ds _ q e = absurd cc

@@ -6,7 +6,7 @@ use Rattle.std.proofs.lemmas.List.Sums.{sum_by-cons}
 use Rattle.ucq_lexer.specs.declared.Token.{Token}
 use Rattle.ucq_lexer.specs.Tokens.{Spells}
 use Rattle.ucq_reader.specs.declared.ReadFault.{ReadFault}
-use Rattle.ucq_reader.specs.declared.ReadFault.TheVariants.{BadByte, BadStatement, OpenEnd, UnknownPrefix, NotBuilt, Limit, Unsafe, TooMany, NoQuery, ManyQueries, Memory}
+use Rattle.ucq_reader.specs.declared.ReadFault.TheVariants.{BadByte, BadStatement, OpenEnd, UnknownPrefix, NotBuilt, Limit, Unsafe, TooMany, NoQuery, Memory}
 use Rattle.ucq_reader.specs.declared.names.Declaration.{Declaration}
 use Rattle.ucq_reader.specs.declared.syntax.StatementForm.{StatementForm}
 use Rattle.ucq_reader.specs.declared.stages.Ending.TheVariants.{Complete}
@@ -34,7 +34,6 @@ or_memory P (Limit file number which count) p = p
 or_memory P (Unsafe file number place) p = p
 or_memory P (TooMany which count) p = p
 or_memory P NoQuery p = p
-or_memory P (ManyQueries file number) p = p
 
 pub or_memory_map : (P Q : ReadFault → Type 0) → ((f : ReadFault) → P f → Q f) → (f : ReadFault) → OrMemory P f → OrMemory Q f
 or_memory_map P Q h Memory p = tt
@@ -47,7 +46,6 @@ or_memory_map P Q h (Limit file number which count) p = h (Limit file number whi
 or_memory_map P Q h (Unsafe file number place) p = h (Unsafe file number place) p
 or_memory_map P Q h (TooMany which count) p = h (TooMany which count) p
 or_memory_map P Q h NoQuery p = h NoQuery p
-or_memory_map P Q h (ManyQueries file number) p = h (ManyQueries file number) p
 
 -- these statements have been read, up to the token at the place
 pub record IsReadTo (text : List ℕ) (ts : List Token) (place number : ℕ) (ss : List Statement) : Type 0 where
@@ -64,6 +62,7 @@ pub record AreTaken (file : ℕ) (text : List ℕ) (ts : List Token) (place numb
   pub taken : AreTakenUp done old new
   pub names : length new.names ≤ length old.names + place
   pub unknowns : new.unknowns ≤ old.unknowns + place
+  pub asked : new.asked ≤ old.asked + place
 
 -- one of them has the first refusal, whatever follows
 abbrev pub IsRefusalOf : ℕ → List Token → List Statement → ReadFault → Type 0
@@ -91,6 +90,7 @@ start file text ts g = record {
     taken = λ all gathered. subst (λ (ps : List Placed). IsGathered ps g) (sym (append-nil all)) gathered;
     names = omega arith;
     unknowns = omega arith;
+    asked = omega arith;
   };
 }
 
@@ -175,6 +175,7 @@ module _ (file : ℕ) (text : List ℕ) (ts : List Token) (place number : ℕ) (
           taken = λ before gathered. subst (λ (ps : List Placed). IsGathered ps new) (append_assoc before t.done (here ∷ [])) (taken (before ++ t.done) (t.taken before gathered));
           names = omega (arith, t.names, grown.names, size);
           unknowns = omega (arith, t.unknowns, grown.unknowns, size);
+          asked = omega (arith, t.asked, grown.asked, size);
         };
       }
 
@@ -226,7 +227,7 @@ module _ (file : ℕ) (text : List ℕ) (ts : List Token) (place number : ℕ) (
         read = read_of;
         clear = ap (λ (ps : List Placed). first_of (map statement_fault ps)) whole ∙ t.clear;
         taken = λ before gathered. subst (λ (ps : List Placed). IsGathered (before ++ ps) new) (sym whole) (t.taken before gathered);
-        grown = record { names = omega (arith, t.names, count, read.within); unknowns = omega (arith, t.unknowns, count, read.within) };
+        grown = record { names = omega (arith, t.names, count, read.within); unknowns = omega (arith, t.unknowns, count, read.within); asked = omega (arith, t.asked, count, read.within) };
         few = omega (arith, count, words_of_file file 0 (starts ts) [] ss (words text ts) are, length-map ts (word_at text));
       }
 

@@ -1,20 +1,22 @@
 -- What is built of a statement's symbols, with numbers for their texts.
-use Rattle.std.specs.Prelude.{◌≡◌, ◌<◌, ◌+◌, ◌-◌, ◌^◌, ℕ, List, [], ◌∷◌, ◌++◌, map, length, Option, Some, None, fold, All, Contains}
+use Rattle.std.specs.Prelude.{◌≡◌, ◌<◌, ◌≤◌, ◌+◌, ◌-◌, ◌^◌, ℕ, List, [], ◌∷◌, ◌++◌, map, length, Option, Some, None, fold, All, Contains}
 use Rattle.std.specs.List.{filter_map, flat_map}
 use Rattle.std.specs.declared.vec.Vec.{Vec}
 use Rattle.std.specs.declared.alloc.Global.{Global}
 use Rattle.ucq_lexer.specs.declared.Token.{Token}
 use Rattle.ucq_terms.specs.declared.Term.{Term}
-use Rattle.ucq_terms.specs.Syntax.{Atom, Query}
+use Rattle.ucq_terms.specs.Syntax.{Atom}
+use Rattle.ucq_terms.specs.declared.TheConstants.{QUERIES}
 use Rattle.ucq_terms.specs.Names.{with_name}
 use Rattle.ucq_reader.specs.declared.building.Numbers.{Numbers}
+use Rattle.ucq_reader.specs.declared.input.Asked.{Asked}
 use Rattle.ucq_reader.specs.declared.names.Declaration.{Declaration}
 use Rattle.ucq_reader.specs.declared.syntax.AtomForm.{AtomForm}
 use Rattle.ucq_reader.specs.declared.syntax.Several.{Several as SeveralForm}
 use Rattle.ucq_reader.specs.Names.{number}
-use Rattle.ucq_reader.specs.Meaning.{Symbol, constant, variable, SymbolAtom, SymbolRule, SymbolQuery, symbol, symbol_atom, symbol_atoms, answer_terms}
-use Rattle.ucq_reader.specs.Input.{variable_text, variables_in, terms_in, term_value, atom_value, rule_value, IsQueryOf}
-use Rattle.ucq_reader.specs.View.{term_view, atom_view, atoms_view, answers_view, declared_view}
+use Rattle.ucq_reader.specs.Meaning.{Symbol, constant, variable, SymbolAtom, SymbolRule, SymbolQuery, SymbolAsked, symbol, symbol_atom, symbol_atoms, answer_terms}
+use Rattle.ucq_reader.specs.Input.{variable_text, variables_in, terms_in, term_value, atom_value, rule_value, IsAskedOf}
+use Rattle.ucq_reader.specs.View.{term_view, atom_view, atoms_view, answers_view, label_view, declared_view}
 use Rattle.ucq_reader.specs.Gathered.{GatheredValue}
 
 abbrev pub constant_text : Symbol → Option (List ℕ)
@@ -68,6 +70,10 @@ written_query text ds answers body = record {
   atoms = symbol_atoms (declared_view text ds) (atoms_view text body);
 }
 
+-- with its label
+abbrev pub written_asked : List ℕ → List Declaration → Option Token → Option (Vec Token Global) → SeveralForm AtomForm → SymbolAsked
+written_asked text ds label answers body = record { label = label_view text label; query = written_query text ds answers body }
+
 -- The atom has at most 16 terms; and so has each of these.
 abbrev pub HasFewTerms : AtomForm → Type 0
 HasFewTerms a = length a.terms.others.items < 16
@@ -119,8 +125,8 @@ pub record AddsFact (f : List SymbolAtom) (old new : GatheredValue) : Type 0 whe
   pub rules : new.rules ≡ old.rules
   pub facts : new.facts ≡ old.facts ++ map (atom_value new.names (place_in old.unknowns (variables_in (terms_in f)))) f
   pub unknowns : new.unknowns ≡ old.unknowns + length (variables_in (terms_in f))
-  pub query : new.query ≡ old.query
-  pub second : new.second ≡ old.second
+  pub queries : new.queries ≡ old.queries
+  pub asked : new.asked ≡ old.asked
 
 -- a rule is added
 pub record AddsRule (r : SymbolRule) (old new : GatheredValue) : Type 0 where
@@ -128,19 +134,15 @@ pub record AddsRule (r : SymbolRule) (old new : GatheredValue) : Type 0 where
   pub rules : new.rules ≡ old.rules ++ rule_value new.names r ∷ []
   pub facts : new.facts ≡ old.facts
   pub unknowns : new.unknowns ≡ old.unknowns
-  pub query : new.query ≡ old.query
-  pub second : new.second ≡ old.second
+  pub queries : new.queries ≡ old.queries
+  pub asked : new.asked ≡ old.asked
 
--- the first query is held, and the second's place is noted
-abbrev pub IsAsked : ℕ → ℕ → SymbolQuery → List (List ℕ) → Option Query → Option (ℕ × ℕ) → Option Query → Option (ℕ × ℕ) → Type 0
-IsAsked file place q names None second query noted = (held : Query) × (query ≡ Some held) × IsQueryOf names q held × (noted ≡ second)
-IsAsked file place q names (Some held) None query noted = (query ≡ Some held) × (noted ≡ Some (file, place))
-IsAsked file place q names (Some held) (Some other) query noted = (query ≡ Some held) × (noted ≡ Some other)
-
--- a query is asked
-pub record AddsQuery (file place : ℕ) (q : SymbolQuery) (old new : GatheredValue) : Type 0 where
-  pub names : new.names ≡ with_names old.names (constants_of (query_symbols q))
+-- a query is asked, which is kept while the limit is not reached
+pub record AddsQuery (q : SymbolAsked) (old new : GatheredValue) : Type 0 where
+  pub names : new.names ≡ with_names old.names (constants_of (query_symbols q.query))
   pub rules : new.rules ≡ old.rules
   pub facts : new.facts ≡ old.facts
   pub unknowns : new.unknowns ≡ old.unknowns
-  pub asked : IsAsked file place q new.names old.query old.second new.query new.second
+  pub kept : old.asked < QUERIES → (held : Asked) × (new.queries ≡ old.queries ++ held ∷ []) × IsAskedOf new.names q held
+  pub passed : QUERIES ≤ old.asked → new.queries ≡ old.queries
+  pub asked : new.asked ≡ old.asked + 1

@@ -1,17 +1,18 @@
 -- The input that files stand for.
 use Rattle.std.specs.Prelude.{◌≡◌, ℕ, ◌+◌, List, [], ◌∷◌, ◌++◌, map, slice_index_or, slice_range, Option, Some, None, Result, Ok, Err, ◌≢◌, AllPairs, Contains}
-use Rattle.std.specs.List.{flat_map, filter_map, enumerate_from}
+use Rattle.std.specs.List.{AllZip, flat_map, filter_map, enumerate_from}
 use Rattle.ucq_terms.specs.declared.Term.{Term}
 use Rattle.ucq_terms.specs.declared.Term.TheVariants.{Constant, Variable}
 use Rattle.ucq_terms.specs.Syntax.{Atom, Rule, Query, IsSameSet}
 use Rattle.ucq_lexer.specs.declared.Token.{Token}
 use Rattle.ucq_lexer.specs.Tokens.{Spells, IsBadByte}
+use Rattle.ucq_reader.specs.declared.input.Asked.{Asked}
 use Rattle.ucq_reader.specs.declared.ReadFault.{ReadFault}
 use Rattle.ucq_reader.specs.declared.ReadFault.TheVariants.{BadByte, BadStatement, OpenEnd}
 use Rattle.ucq_reader.specs.Statement.{Word, word_of}
 use Rattle.ucq_reader.specs.File.{AreStatements, IsBadStatement, IsOpenEnd}
 use Rattle.ucq_reader.specs.Names.{in_order, number}
-use Rattle.ucq_reader.specs.Meaning.{Symbol, constant, variable, SymbolAtom, SymbolRule, SymbolQuery, Meant, FileRead, malformed, parsed, file_fault, meaning}
+use Rattle.ucq_reader.specs.Meaning.{Symbol, constant, variable, SymbolAtom, SymbolRule, SymbolQuery, SymbolAsked, Meant, FileRead, malformed, parsed, file_fault, meaning}
 
 -- ---- reading a file
 
@@ -78,11 +79,16 @@ pub record IsQueryOf (names : List (List ℕ)) (q : SymbolQuery) (query : Query)
   pub atoms : IsSameSet query.atoms (map (atom_value names (number (variables_in (q.answers ++ terms_in q.atoms)))) q.atoms)
   pub once : AllPairs (λ (a b : Atom). a ≢ b) query.atoms
 
+-- a query that is asked has the label of the text
+pub record IsAskedOf (names : List (List ℕ)) (meant : SymbolAsked) (asked : Asked) : Type 0 where
+  pub label : asked.label ≡ meant.label
+  pub query : IsQueryOf names meant.query asked.query
+
 -- what the reader gives, as contracts see it
 pub record InputValue : Type 0 where
   pub names : List (List ℕ)
   pub rules : List Rule
-  pub query : Query
+  pub queries : List Asked
   pub facts : List Atom
 
 -- the variable stands in that fact statement
@@ -94,7 +100,7 @@ StandsIn facts i text = Contains (terms_in (slice_index_or facts i [])) (variabl
 pub record IsNumbered (meant : Meant) (input : InputValue) : Type 0 where
   pub names : input.names ≡ in_order meant.texts
   pub rules : input.rules ≡ map (rule_value input.names) meant.rules
-  pub query : IsQueryOf input.names meant.query input.query
+  pub queries : AllZip (IsAskedOf input.names) meant.queries input.queries
   pub unknown : ℕ → List ℕ → ℕ
   pub apart : (i j : ℕ) (x y : List ℕ) → StandsIn meant.facts i x → StandsIn meant.facts j y → unknown i x ≡ unknown j y → (i ≡ j) × (x ≡ y)
   pub facts : input.facts ≡ flat_map (λ (f : ℕ × List SymbolAtom). map (atom_value input.names (unknown f.0)) f.1) (enumerate_from 0 meant.facts)

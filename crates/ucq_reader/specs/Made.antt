@@ -1,6 +1,6 @@
 -- The input that is made for a number: a chain of rules under a rule with an unknown value, the query of that rule's
 -- head, and facts along the chain.
-use Rattle.std.specs.Prelude.{ℕ, ◌+◌, List, [], ◌∷◌, ◌++◌, map, codes, decimal}
+use Rattle.std.specs.Prelude.{ℕ, ◌+◌, List, [], ◌∷◌, ◌++◌, map, None, codes, decimal}
 use Rattle.std.specs.List.{flat_map, range_with_len}
 use Rattle.ucq_reader.specs.Meaning.{Symbol, constant, variable, SymbolAtom, SymbolRule, SymbolQuery, Meant}
 use Rattle.ucq_reader.specs.Building.{constants_of, symbols_in, rule_symbols, query_symbols}
@@ -70,6 +70,6 @@ abbrev pub made : ℕ → Meant
 made n = record {
   texts = flat_map rule_texts (made_rules n) ++ (query_texts made_query ++ flat_map fact_texts (made_facts n));
   rules = made_rules n;
-  query = made_query;
+  queries = record { label = None; query = made_query } ∷ [];
   facts = made_facts n;
 }

@@ -1,10 +1,10 @@
 -- What statements stand for, in texts, and the first refusal.
 use Rattle.std.specs.Prelude.{ℕ, ◌+◌, Bool, false, not, nat_lt, List, [], ◌∷◌, ◌++◌, map, length, take, drop, zip, Option, Some, None, Result, Ok, Err}
-use Rattle.ucq_terms.specs.declared.TheConstants.{FACTS, RULES}
+use Rattle.ucq_terms.specs.declared.TheConstants.{FACTS, QUERIES, RULES}
 use Rattle.std.specs.List.{list_any, find, filter_map, flat_map, enumerate_from}
 use Rattle.std.specs.Str.{bytes_eq}
 use Rattle.ucq_reader.specs.declared.ReadFault.{ReadFault}
-use Rattle.ucq_reader.specs.declared.ReadFault.TheVariants.{UnknownPrefix, NotBuilt, Limit, Unsafe, TooMany, NoQuery, ManyQueries}
+use Rattle.ucq_reader.specs.declared.ReadFault.TheVariants.{UnknownPrefix, NotBuilt, Limit, Unsafe, TooMany, NoQuery}
 use Rattle.ucq_reader.specs.declared.NotBuiltKind.TheVariants as kinds
 use Rattle.ucq_reader.specs.declared.Which.{Which}
 use Rattle.ucq_reader.specs.declared.Which.TheVariants as limits
@@ -29,12 +29,17 @@ pub record SymbolQuery : Type 0 where
   pub answers : List Symbol
   pub atoms : List SymbolAtom
 
+-- a query, and the label that stands before it
+pub record SymbolAsked : Type 0 where
+  pub label : Option (List ℕ)
+  pub query : SymbolQuery
+
 -- What files stand for: the texts of all names, in order of their tokens and as often as they stand there, the rules,
--- the query, and the atoms of each fact statement.
+-- the queries, and the atoms of each fact statement.
 pub record Meant : Type 0 where
   pub texts : List (List ℕ)
   pub rules : List SymbolRule
-  pub query : SymbolQuery
+  pub queries : List SymbolAsked
   pub facts : List (List SymbolAtom)
 
 -- A statement in its place: its number in its file, the places of its tokens, and the prefixes declared before it.
@@ -79,12 +84,12 @@ rule_of p = go p.before p.statement
     go ds (a_sentence l (a_rule head body)) = Some (record { heads = symbol_atoms ds head; body = symbol_atoms ds body })
     go ds _ = None
 
--- the query that the statement is
-abbrev pub query_of : Placed → Option SymbolQuery
-query_of p = go p.before p.statement
+-- the query that the statement is, with its label
+abbrev pub asked_of : Placed → Option SymbolAsked
+asked_of p = go p.before p.statement
   where
-    go : Declared → Statement → Option SymbolQuery
-    go ds (a_sentence l (a_query answers body)) = Some (record { answers = map (symbol ds) (answer_terms answers); atoms = symbol_atoms ds body })
+    go : Declared → Statement → Option SymbolAsked
+    go ds (a_sentence l (a_query answers body)) = Some (record { label = l; query = record { answers = map (symbol ds) (answer_terms answers); atoms = symbol_atoms ds body } })
     go ds _ = None
 
 -- the atoms of the fact statement that it is
@@ -231,22 +236,18 @@ abbrev pub files_fault : ℕ → List FileRead → Option ReadFault
 files_fault file [] = None
 files_fault file (f ∷ rest) = first_of (file_fault file f ∷ files_fault (file + 1) rest ∷ [])
 
--- too many rules, or else too many facts
+-- too many rules, or else too many facts, or else too many queries
 abbrev pub count_fault : List Placed → Option ReadFault
 count_fault all = first_of (
     mapped (TooMany wholes.Rules) (first_above RULES (length (filter_map rule_of all) ∷ []))
     ∷ mapped (TooMany wholes.Facts) (first_above FACTS (length (flat_map (λ atoms. atoms) (filter_map fact_of all)) ∷ []))
+    ∷ mapped (TooMany wholes.Queries) (first_above QUERIES (length (filter_map asked_of all) ∷ []))
     ∷ [])
 
--- a statement that is a query, with its file and number
-abbrev pub asking : Placed → Option (Placed × SymbolQuery)
-asking p = mapped (λ q. (p, q)) (query_of p)
-
--- what the statements stand for, once none of them is refused, where these of them are queries
-abbrev pub asked : List Placed → List (Placed × SymbolQuery) → Result Meant ReadFault
-asked all [] = Err NoQuery
-asked all (q ∷ []) = Ok (record { texts = flat_map texts_of all; rules = filter_map rule_of all; query = q.1; facts = filter_map fact_of all })
-asked all (q ∷ r ∷ rest) = Err (ManyQueries r.0.file r.0.number)
+-- what the statements stand for, once none of them is refused, where these are their queries
+abbrev pub with_queries : List Placed → List SymbolAsked → Result Meant ReadFault
+with_queries all [] = Err NoQuery
+with_queries all (q ∷ more) = Ok (record { texts = flat_map texts_of all; rules = filter_map rule_of all; queries = q ∷ more; facts = filter_map fact_of all })
 
 -- the refusal, or where there is none, this
 abbrev pub unless : Option ReadFault → Result Meant ReadFault → Result Meant ReadFault
@@ -255,7 +256,7 @@ unless None outcome = outcome
 
 -- what the statements stand for, once none of them is refused
 abbrev pub meant : List Placed → Result Meant ReadFault
-meant all = unless (count_fault all) (asked all (filter_map asking all))
+meant all = unless (count_fault all) (with_queries all (filter_map asked_of all))
 
 -- what files stand for, or their first refusal
 abbrev pub meaning : List FileRead → Result Meant ReadFault

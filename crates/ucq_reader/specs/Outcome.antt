@@ -2,7 +2,6 @@
 use Rattle.std.specs.Prelude.{◌≡◌, ℕ, ◌+◌, ◌≤◌, List, [], ◌∷◌, ◌++◌, map, length, sum_by, Option, Some, None, Ok, Err}
 use Rattle.std.specs.declared.vec.Vec.{Vec}
 use Rattle.std.specs.declared.alloc.Global.{Global}
-use Rattle.ucq_terms.specs.Syntax.{Query}
 use Rattle.ucq_reader.specs.declared.input.Input.{Input}
 use Rattle.ucq_reader.specs.declared.ReadFault.{ReadFault}
 use Rattle.ucq_reader.specs.declared.ReadFault.TheVariants.{Memory}
@@ -25,10 +24,11 @@ OrMemory P fault = P fault
 abbrev pub AreTakenUp : List Placed → GatheredValue → GatheredValue → Type 0
 AreTakenUp more old new = (all : List Placed) → IsGathered all old → IsGathered (all ++ more) new
 
--- at most so many names have come, and so many unknown values
+-- at most so many names have come, so many unknown values and so many queries
 pub record IsGrown (old new : GatheredValue) (count : ℕ) : Type 0 where
   pub names : length new.names ≤ length old.names + count
   pub unknowns : new.unknowns ≤ old.unknowns + count
+  pub asked : new.asked ≤ old.asked + count
 
 -- The statement has no refusal of its own and has been taken, with so many tokens, and these are the prefix lines up to it.
 pub record IsAdmitted (text : List ℕ) (p : Placed) (count : ℕ) (before after : List Declaration) (old new : GatheredValue) : Type 0 where
@@ -75,11 +75,11 @@ IsFileFault file text fault = (read : FileRead) × IsRead file text read × (fil
 
 -- the parts, as contracts see them
 abbrev pub input_value : Input → InputValue
-input_value i = record { names = i.names; rules = i.rules.items; query = i.query; facts = i.facts.items }
+input_value i = record { names = i.names; rules = i.rules.items; queries = i.queries.items; facts = i.facts.items }
 
 -- what is gathered has the numbers of what is meant
 abbrev pub IsMeant : Meant → GatheredValue → Type 0
-IsMeant m g = (q : Query) × (g.query ≡ Some q) × IsNumbered m (record { names = g.names; rules = g.rules; query = q; facts = g.facts })
+IsMeant m g = IsNumbered m (record { names = g.names; rules = g.rules; queries = g.queries; facts = g.facts })
 
 -- why statements, of which none is refused, stand for no input; or that this has been gathered of what they stand for
 abbrev pub IsWhole : List Placed → GatheredValue → Option ReadFault → Type 0

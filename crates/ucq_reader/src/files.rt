@@ -20,7 +20,7 @@ use crate::syntax::StatementForm;
 use crate::{ReadFault, Whole};
 use std::alloc::{AllocError, Global};
 use ucq_lexer::Token;
-use ucq_terms::{FACTS, RULES};
+use ucq_terms::{FACTS, QUERIES, RULES};
 
 /// Notes the statement, if it is a prefix line.
 fn declare(declarations: &mut Vec<Declaration>, form: &StatementForm) -> Result<(), AllocError>
@@ -56,6 +56,7 @@ fn take_statement(
     requires spelled { IsSpelled text.now tokens.now form.now }
     requires names { length gathered.old.names + length tokens.now < 2 ^ 32 - 1 }
     requires unknowns { gathered.old.unknowns + length tokens.now < 2 ^ 32 - 1 }
+    requires asked { gathered.old.asked + length tokens.now < 2 ^ 32 - 1 }
     ensures clear { OnOk
         result
         (spec_statement_fault
@@ -79,7 +80,7 @@ fn take_statement(
     if let Some(fault) = statement_fault(text, declarations, place, tokens, form) {
         return Err(fault);
     }
-    gathered.add(alloc, text, declarations, place.file, place.number, form)
+    gathered.add(alloc, text, declarations, form)
 }
 
 /// The same, and notes the statement if it is a prefix line.
@@ -97,6 +98,7 @@ fn admit(
     requires spelled { IsSpelled text.now tokens.now form.now }
     requires names { length gathered.old.names + length tokens.now < 2 ^ 32 - 1 }
     requires unknowns { gathered.old.unknowns + length tokens.now < 2 ^ 32 - 1 }
+    requires asked { gathered.old.asked + length tokens.now < 2 ^ 32 - 1 }
     ensures admitted { OnOk
         result
         (IsAdmitted text.now
@@ -141,6 +143,7 @@ fn judge(
     requires spelled { IsSpelled text.now tokens.now form.now }
     requires names { refusal ≡ None → length gathered.old.names + length tokens.now < 2 ^ 32 - 1 }
     requires unknowns { refusal ≡ None → gathered.old.unknowns + length tokens.now < 2 ^ 32 - 1 }
+    requires asked { refusal ≡ None → gathered.old.asked + length tokens.now < 2 ^ 32 - 1 }
     ensures { IsJudged
         refusal
         (placed_view place.file place.number text.now declarations.old.items tokens.now
@@ -178,6 +181,7 @@ fn take_statements(
     requires spells { Spells text.now tokens.now }
     requires names { length gathered.old.names + length text.now < 2 ^ 32 - 1 }
     requires unknowns { gathered.old.unknowns + length text.now < 2 ^ 32 - 1 }
+    requires asked { gathered.old.asked + length text.now < 2 ^ 32 - 1 }
     ensures taken { OnOk result (IsFileTaken file text.now gathered.old gathered.new) }
     ensures fault { IfErr result (λ f. OrMemory (IsFileFault file text.now) f) }
 {
@@ -218,6 +222,7 @@ fn take_file(
     requires text { length text.now ≤ BYTES }
     requires names { length gathered.old.names + length text.now < 2 ^ 32 - 1 }
     requires unknowns { gathered.old.unknowns + length text.now < 2 ^ 32 - 1 }
+    requires asked { gathered.old.asked + length text.now < 2 ^ 32 - 1 }
     ensures taken { OnOk result (IsFileTaken file text.now gathered.old gathered.new) }
     ensures fault { IfErr result (λ f. OrMemory (IsFileFault file text.now) f) }
 {
@@ -225,8 +230,8 @@ fn take_file(
     take_statements(alloc, gathered, file, text, tokens.as_slice())
 }
 
-/// Why the statements stand for no input, once none of them is refused: there are too many rules or facts, no query, or
-/// more than one.
+/// Why the statements stand for no input, once none of them is refused: there are too many rules, facts or queries, or no
+/// query.
 fn whole_fault(gathered: &Gathered) -> Option<ReadFault>
     requires rules { length gathered.now.rules < 2 ^ 32 }
     requires facts { length gathered.now.facts < 2 ^ 32 }
@@ -235,6 +240,8 @@ fn whole_fault(gathered: &Gathered) -> Option<ReadFault>
         IsWhole all gathered.now result }
     ensures few_rules { result ≡ None → length gathered.now.rules ≤ RULES }
     ensures few_facts { result ≡ None → length gathered.now.facts ≤ FACTS }
+    ensures some_query { result ≡ None → 0 < gathered.now.asked }
+    ensures few_queries { result ≡ None → gathered.now.asked ≤ QUERIES }
 {
     let rules = gathered.rule_count();
     if rules > RULES as usize {
@@ -250,13 +257,17 @@ fn whole_fault(gathered: &Gathered) -> Option<ReadFault>
             count: facts as u32,
         });
     }
-    if !gathered.has_query() {
+    let queries = gathered.query_count();
+    if queries > QUERIES {
+        return Some(ReadFault::TooMany {
+            which: Whole::Queries,
+            count: queries,
+        });
+    }
+    if queries == 0 {
         return Some(ReadFault::NoQuery);
     }
-    match gathered.second() {
-        Some((file, number)) => Some(ReadFault::ManyQueries { file, number }),
-        None => None,
-    }
+    None
 }
 
 /// Reads the files in turn as the input that they stand for.
@@ -271,6 +282,9 @@ pub fn read_files(alloc: Global, files: &[Vec<u8>]) -> Result<Input, ReadFault>
     ensures input { IfOk result (λ input. IsInput (texts files.now) (input_value input)) }
     ensures rules { IfOk result (λ input. length (input_value input).rules ≤ RULES) }
     ensures facts { IfOk result (λ input. length (input_value input).facts ≤ FACTS) }
+    ensures queries { IfOk result (λ input.
+        (0 < length (input_value input).queries) ×
+        (length (input_value input).queries ≤ QUERIES)) }
     ensures fault { IfErr result (λ fault. IsFault (texts files.now) fault) }
 {
     let mut gathered = Gathered::new(alloc)?;

@@ -1,16 +1,17 @@
-//! What the statements that were read so far amount to: names, rules, facts and the query.
-ghost use Rattle.std.specs.Prelude.{◌≡◌, ◌≤◌, ◌<◌, ◌+◌, ◌-◌, ◌^◌, ◌↔◌, ℕ, List, [], ◌∷◌, ◌++◌, length, IfOk, IfErr, OnOk, IsTrue, IsSome, Some};
+//! What the statements that were read so far amount to: names, rules, facts and queries.
+ghost use Rattle.std.specs.Prelude.{◌≡◌, ◌≤◌, ◌<◌, ◌+◌, ◌-◌, ◌^◌, ℕ, List, [], ◌∷◌, ◌++◌, length, IfOk, IfErr, OnOk};
 ghost use Rattle.ucq_reader.specs.declared.ReadFault.TheVariants.{Memory};
+ghost use Rattle.ucq_reader.specs.View.{label_view};
 
 use crate::ReadFault;
 use crate::building::Numbers;
-use crate::input::Input;
-use crate::names::Declaration;
+use crate::input::{Asked, Input, Label};
+use crate::names::{Declaration, slice_of};
 use crate::syntax::{AtomForm, SentenceForm, Several, StatementForm};
 use std::alloc::Global;
 use std::marker::Model;
 use ucq_lexer::Token;
-use ucq_terms::{Atom, Query, Rule};
+use ucq_terms::{Atom, QUERIES, Rule};
 
 /// What has been gathered of the statements that were read so far.
 #[derive(Drop)]
@@ -19,8 +20,8 @@ pub struct Gathered {
     rules: Vec<Rule>,
     facts: Vec<Atom>,
     unknowns: u32,
-    query: Option<Query>,
-    second: Option<(u32, u32)>,
+    queries: Vec<Asked>,
+    asked: u32,
 }
 
 impl Model for Gathered {
@@ -34,22 +35,22 @@ impl Model for Gathered {
           rules = g.rules.items;
           facts = g.facts.items;
           unknowns = g.unknowns;
-          query = g.query;
-          second = g.second;
+          queries = g.queries.items;
+          asked = g.asked;
         } };
 }
 
 impl Gathered {
     ghost use Rattle.ucq_reader.specs.Statement.{spelling};
     ghost use Rattle.ucq_reader.specs.Meaning.{Placed, symbol_atoms};
-    ghost use Rattle.ucq_reader.specs.Building.{AddsFact, AddsRule, AddsQuery, HaveFewTerms, IsSafeQuery, query_symbols, rule_symbols, symbols_in, written_query, written_rule};
+    ghost use Rattle.ucq_reader.specs.Building.{AddsFact, AddsRule, AddsQuery, HaveFewTerms, IsSafeQuery, query_symbols, rule_symbols, symbols_in, written_asked, written_query, written_rule};
     ghost use Rattle.ucq_reader.specs.Gathered.{IsGathered, IsAccepted};
     ghost use Rattle.ucq_reader.specs.View.{atoms_view, declared_view, statement_view};
 
     /// Nothing is gathered yet.
     pub fn new(alloc: Global) -> Result<Gathered, ReadFault>
         ensures gathered { IfOk result (λ g. IsGathered [] g) }
-        ensures none { IfOk result (λ g. (g.names ≡ []) × (g.unknowns ≡ 0)) }
+        ensures none { IfOk result (λ g. (g.names ≡ []) × (g.unknowns ≡ 0) × (g.asked ≡ 0)) }
         ensures err { IfErr result (λ e. e ≡ Memory) }
     {
         let numbers = Numbers::new(alloc)?;
@@ -58,8 +59,8 @@ impl Gathered {
             rules: Vec::new(alloc),
             facts: Vec::new(alloc),
             unknowns: 0,
-            query: None,
-            second: None,
+            queries: Vec::new(alloc),
+            asked: 0,
         })
     }
 
@@ -71,8 +72,6 @@ impl Gathered {
         alloc: Global,
         text: &[u8],
         declarations: &[Declaration],
-        file: u32,
-        number: u32,
         statement: &StatementForm,
     ) -> Result<(), ReadFault>
         requires accepted { IsAccepted
@@ -82,9 +81,11 @@ impl Gathered {
             < 2 ^ 32 - 1 }
         requires unknowns { self.old.unknowns + length (spelling (statement_view text.now statement.now))
             < 2 ^ 32 - 1 }
+        requires asked { self.old.asked + length (spelling (statement_view text.now statement.now))
+            < 2 ^ 32 - 1 }
         ensures gathered { OnOk
             result
-            ((all : List Placed) (starts : List ℕ) →
+            ((all : List Placed) (file number : ℕ) (starts : List ℕ) →
             IsGathered all self.old →
             IsGathered
             (all ++
@@ -98,7 +99,7 @@ impl Gathered {
             ∷ [])
             self.new) }
 
-        // Names and unknown values are words of the statement.
+        // Names and unknown values are words of the statement, and a query has words.
         ensures names_grow { OnOk
             result
             (length self.new.names ≤
@@ -108,16 +109,20 @@ impl Gathered {
             result
             (self.new.unknowns ≤
             self.old.unknowns + length (spelling (statement_view text.now statement.now))) }
+        ensures asked_grow { OnOk
+            result
+            (self.new.asked ≤
+            self.old.asked + length (spelling (statement_view text.now statement.now))) }
         ensures err { IfErr result (λ e. e ≡ Memory) }
     {
         match statement {
-            StatementForm::Sentence { sentence, .. } => match sentence {
+            StatementForm::Sentence { label, sentence } => match sentence {
                 SentenceForm::Fact(atoms) => self.add_fact(alloc, text, declarations, atoms),
                 SentenceForm::Rule(heads, body) => {
                     self.add_rule(alloc, text, declarations, heads, body)
                 }
                 SentenceForm::Query(answers, body) => {
-                    self.add_query(alloc, text, declarations, (file, number), answers, body)
+                    self.add_query(alloc, text, declarations, *label, answers, body)
                 }
                 SentenceForm::Constraint(_) => unreachable!(),
             },
@@ -189,13 +194,13 @@ impl Gathered {
         Ok(())
     }
 
-    /// Takes a query, which is held where it is the first.
+    /// Takes a query, which is kept where fewer than 64 came before it. Of one more the names are numbered, too.
     fn add_query(
         &mut self,
         alloc: Global,
         text: &[u8],
         declarations: &[Declaration],
-        place: (u32, u32),
+        label: Option<Token>,
         answers: &Option<Vec<Token>>,
         body: &Several<AtomForm>,
     ) -> Result<(), ReadFault>
@@ -208,21 +213,23 @@ impl Gathered {
             length
             (query_symbols (written_query text.now declarations.now answers.now body.now))
             < 2 ^ 32 - 1 }
+        requires asked { self.old.asked + 1 < 2 ^ 32 }
         ensures added { OnOk
             result
-            (AddsQuery place.0 place.1
-            (written_query text.now declarations.now answers.now body.now) self.old
+            (AddsQuery (written_asked text.now declarations.now label answers.now body.now) self.old
             self.new) }
         ensures err { IfErr result (λ e. e ≡ Memory) }
     {
         let query = self
             .numbers
             .query(alloc, text, declarations, answers, body)?;
-        if self.query.is_none() {
-            self.query = Some(query);
-        } else if self.second.is_none() {
-            self.second = Some(place);
+        let before = self.asked;
+        self.asked += 1;
+        if before >= QUERIES {
+            return Ok(());
         }
+        let label = label_of(alloc, text, label)?;
+        self.queries.push(Asked { label, query })?;
         Ok(())
     }
 
@@ -240,45 +247,45 @@ impl Gathered {
         self.facts.len()
     }
 
-    /// Whether a query was asked.
-    pub fn has_query(&self) -> bool
-        ensures { IsTrue result ↔ IsSome self.now.query }
+    /// How many queries were asked.
+    pub fn query_count(&self) -> u32
+        ensures { result ≡ self.now.asked }
     {
-        self.query.is_some()
-    }
-
-    /// The file and the number of the second query.
-    pub fn second(&self) -> Option<(u32, u32)>
-        ensures { result ≡ self.now.second }
-    {
-        self.second
+        self.asked
     }
 
     ghost use Rattle.ucq_reader.specs.Outcome.{input_value};
 
-    /// The parts, with the first query.
+    /// The parts, with the queries that are kept.
     pub fn into_input(self) -> Input
-        requires { IsSome self.query }
         ensures names { (input_value result).names ≡ self.names }
         ensures rules { (input_value result).rules ≡ self.rules }
         ensures facts { (input_value result).facts ≡ self.facts }
-        ensures query { self.query ≡ Some (input_value result).query }
+        ensures queries { (input_value result).queries ≡ self.queries }
     {
         let Gathered {
             numbers,
             rules,
             facts,
-            query,
+            queries,
             ..
         } = self;
-        match query {
-            Some(query) => Input {
-                names: numbers.names,
-                rules,
-                query,
-                facts,
-            },
-            None => unreachable!(),
+        Input {
+            names: numbers.names,
+            rules,
+            queries,
+            facts,
         }
+    }
+}
+
+/// The label that this token is.
+fn label_of(alloc: Global, text: &[u8], token: Option<Token>) -> Result<Option<Label>, ReadFault>
+    ensures label { IfOk result (λ label. label ≡ label_view text.now token) }
+    ensures err { IfErr result (λ e. e ≡ Memory) }
+{
+    match token {
+        Some(token) => Ok(Some(Label::new(alloc, slice_of(text, token))?)),
+        None => Ok(None),
     }
 }

@@ -1,17 +1,11 @@
 //! The statements of a file, and the input that files stand for.
 #![tactic(auto)]
 
-ghost use Rattle.std.specs.Prelude.{◌≡◌, ℕ, List, Result};
-ghost use Rattle.ucq_reader.specs.Statement.{Word, Statement};
-ghost use Rattle.ucq_reader.specs.File.{AreStatements};
-ghost use Rattle.ucq_reader.specs.Meaning.{Meant};
-ghost use Rattle.ucq_reader.specs.Input.{IsMeaning};
-ghost use Rattle.ucq_reader.specs.Outcome.{IsFault};
-ghost use Rattle.ucq_reader.specs.declared.ReadFault.{ReadFault};
+ghost use Rattle.std.specs.Prelude.{◌≡◌};
 ghost use Rattle.ucq_reader.specs.declared.ReadFault.TheVariants.{Memory};
 
 pub use files::read_files;
-pub use input::Input;
+pub use input::{Asked, Input, Label};
 pub use made::made_input;
 use std::alloc::{AllocError, AllocFailed};
 use ucq_terms::NoMemory;
@@ -21,6 +15,7 @@ mod faults;
 mod files;
 mod gathered;
 mod input;
+pub mod laws;
 mod made;
 mod names;
 mod parse;
@@ -55,6 +50,8 @@ pub enum Whole {
     Rules,
     /// 1,048,576 atoms of fact statements, as they are written.
     Facts,
+    /// 64 queries.
+    Queries,
 }
 
 /// Why files are refused. Files are numbered from 0, statements from 0 in their file, and places are those of bytes.
@@ -107,11 +104,6 @@ pub enum ReadFault {
     },
     /// No file has a query.
     NoQuery,
-    /// The second query.
-    ManyQueries {
-        file: u32,
-        number: u32,
-    },
     /// Want of memory. It may come at any place.
     Memory,
 }
@@ -139,28 +131,3 @@ impl From<NoMemory> for ReadFault {
         ReadFault::Memory
     }
 }
-
-/// Words are spelled by one list of statements at most.
-pub fn one_grammar()
-    ensures { (words : List Word) (a b : List Statement) →
-        AreStatements words a →
-        AreStatements words b →
-        a ≡ b }
-{}
-
-/// Files have one meaning at most: an input, or one refusal.
-pub fn one_meaning()
-    ensures { (files : List (List ℕ)) (a b : Result Meant ReadFault) →
-        IsMeaning files a →
-        IsMeaning files b →
-        a ≡ b }
-{}
-
-/// Files that stand for something are never refused: whatever the reader answers of them, but for want of memory, is an
-/// input.
-pub fn meant_files_are_not_refused()
-    ensures { (files : List (List ℕ)) (meant : Meant) (fault : ReadFault) →
-        IsMeaning files (Ok meant) →
-        IsFault files fault →
-        fault ≡ Memory }
-{}

@@ -1,16 +1,16 @@
 //! Inputs that are made for a number, and not read: a chain of rules, a query under them, and facts along the chain.
-ghost use Rattle.std.specs.Prelude.{◌≡◌, ◌≤◌, ◌<◌, ◌+◌, ◌-◌, ◌*◌, ◌^◌, [], ◌∷◌, length, vec_len, IfOk, OnOk, IsSome, Some, None, codes, string_bytes};
-ghost use Rattle.ucq_terms.specs.declared.TheConstants.{FACTS, RULES};
+ghost use Rattle.std.specs.Prelude.{◌≡◌, ◌≤◌, ◌<◌, ◌+◌, ◌-◌, ◌*◌, ◌^◌, [], ◌∷◌, length, vec_len, IfOk, OnOk, codes, string_bytes};
+ghost use Rattle.ucq_terms.specs.declared.TheConstants.{FACTS, QUERIES, RULES};
 ghost use Rattle.ucq_terms.specs.Names.{with_name};
 ghost use Rattle.ucq_reader.specs.Meaning.{constant};
 ghost use Rattle.ucq_reader.specs.Input.{IsNumbered, IsQueryOf, rule_value};
 ghost use Rattle.ucq_reader.specs.Building.{AddsFact, AddsQuery, AddsRule, IsNumberOf, with_names};
 ghost use Rattle.ucq_reader.specs.Outcome.{input_value};
 ghost use Rattle.ucq_reader.specs.Made.{binary, chain_rule, last_fact, last_rule, made, made_query, numbered, pair_fact, query_texts, rule_texts, unary};
-ghost use Rattle.ucq_reader.specs.inner.Making.{HasChain, HasFacts, HasPairs, HasRules, AreMadeAtoms, IsMadeAtom};
+ghost use Rattle.ucq_reader.specs.inner.Making.{HasChain, HasFacts, HasPairs, HasRules, AreMadeAtoms, IsMadeAtom, unlabelled};
 
 use crate::building::stored_query;
-use crate::input::Input;
+use crate::input::{Asked, Input};
 use std::alloc::{AllocError, Global};
 use std::marker::Model;
 use ucq_terms::{Atom, Names, NoMemory, Query, Rule, Term};
@@ -27,9 +27,13 @@ pub fn made_input(alloc: Global, n: u32) -> Result<Input, NoMemory>
     requires few { n ≤ 4000 }
     ensures numbered { IfOk result (λ input. IsNumbered (made n) (input_value input)) }
 
-    // So the rules and the facts are within the limits of what is read.
+    // So the rules, the facts and the queries are within the limits of what is read.
     ensures rules { IfOk result (λ input. length (input_value input).rules ≤ RULES) }
     ensures facts { IfOk result (λ input. length (input_value input).facts ≤ FACTS) }
+    ensures queries { IfOk result (λ input.
+        (0 < length (input_value input).queries) ×
+        (length (input_value input).queries ≤ QUERIES)) }
+    ensures one_query { IfOk result (λ input. length (input_value input).queries ≡ 1) }
 {
     let mut parts = Parts::new(alloc)?;
     parts.push_rules(alloc, n)?;
@@ -152,12 +156,12 @@ fn query(alloc: Global, names: &mut Names) -> Result<Query, NoMemory>
 struct Parts {
     names: Names,
     rules: Vec<Rule>,
-    query: Option<Query>,
+    queries: Vec<Asked>,
     facts: Vec<Atom>,
 }
 
 impl Model for Parts {
-    ghost use Rattle.std.specs.Prelude.{None};
+    ghost use Rattle.std.specs.Prelude.{length};
     ghost use Rattle.ucq_reader.specs.Gathered.{GatheredValue};
 
     ghost Value = { GatheredValue };
@@ -168,8 +172,8 @@ impl Model for Parts {
           rules = p.rules.items;
           facts = p.facts.items;
           unknowns = 0;
-          query = p.query;
-          second = None;
+          queries = p.queries.items;
+          asked = length p.queries.items;
         } };
 }
 
@@ -181,7 +185,7 @@ impl Parts {
         Ok(Parts {
             names: Names::new(alloc)?,
             rules: Vec::new(alloc),
-            query: None,
+            queries: Vec::new(alloc),
             facts: Vec::new(alloc),
         })
     }
@@ -220,12 +224,12 @@ impl Parts {
 
     /// Asks the query.
     fn ask(&mut self, alloc: Global) -> Result<(), NoMemory>
-        requires none { self.old.query ≡ None }
+        requires none { self.old.asked ≡ 0 }
         requires names { length self.old.names < 2 ^ 20 }
-        ensures { OnOk result (AddsQuery 0 0 made_query self.old self.new) }
+        ensures { OnOk result (AddsQuery (unlabelled made_query) self.old self.new) }
     {
         let query = query(alloc, &mut self.names)?;
-        self.query = Some(query);
+        self.queries.push(Asked { label: None, query })?;
         Ok(())
     }
 
@@ -273,26 +277,22 @@ impl Parts {
 
     /// The input of these parts.
     fn into_input(self) -> Input
-        requires { IsSome self.query }
         ensures names { (input_value result).names ≡ self.names }
         ensures rules { (input_value result).rules ≡ self.rules }
         ensures facts { (input_value result).facts ≡ self.facts }
-        ensures query { self.query ≡ Some (input_value result).query }
+        ensures queries { (input_value result).queries ≡ self.queries }
     {
         let Parts {
             names,
             rules,
-            query,
+            queries,
             facts,
         } = self;
-        match query {
-            Some(query) => Input {
-                names,
-                rules,
-                query,
-                facts,
-            },
-            None => unreachable!(),
+        Input {
+            names,
+            rules,
+            queries,
+            facts,
         }
     }
 }

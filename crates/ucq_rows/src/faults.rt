@@ -8,7 +8,7 @@ use std::process::Abort;
 const TWO_EDGES: &str = "? :- p(X,Y), p(Z,W).\n";
 
 /// Files that are refused, and the line of each.
-const REFUSED: [(&str, &str); 21] = [
+const REFUSED: [(&str, &str); 20] = [
     ("? :- p(a)", "ucq: file 0 byte 0: statement not ended"),
     ("? :- p(X) & q(X).", "ucq: file 0 byte 10: bad byte"),
     ("? :- ex:p(X).", "ucq: file 0 byte 5: unknown prefix"),
@@ -25,10 +25,6 @@ const REFUSED: [(&str, &str); 21] = [
     (
         "? :- p(X), .",
         "ucq: file 0 statement 0 byte 11: bad statement",
-    ),
-    (
-        "? :- p(X). ? :- q(X).",
-        "ucq: file 0 statement 1: second query",
     ),
     (
         "! :- p(X). ? :- p(X).",
@@ -123,7 +119,7 @@ fn a_query_has_at_most_32_atoms(rt: HostRuntime) {
 }
 
 /// The beginning of a file, a piece, how often it follows, the end, and the line of the file.
-const MANY: [(&str, &str, usize, &str, &str); 4] = [
+const MANY: [(&str, &str, usize, &str, &str); 5] = [
     (
         "? :- p(X).",
         "p(X):-q(X).",
@@ -146,6 +142,13 @@ const MANY: [(&str, &str, usize, &str, &str); 4] = [
         "ucq: facts limit passed with 1048577",
     ),
     ("p(a)", ",p(a)", 1_048_575, ".", "ucq: no query"),
+    (
+        "p(a).",
+        "?:-p(X).",
+        65,
+        "",
+        "ucq: queries limit passed with 65",
+    ),
 ];
 
 fn repeated(
@@ -168,7 +171,7 @@ fn assert_many(rt: &impl Abort, alloc: Global, rows: &[(&str, &str, usize, &str,
 }
 
 #[test]
-fn rules_and_facts_are_counted_over_all_files(rt: HostRuntime) {
+fn rules_facts_and_queries_are_counted_over_all_files(rt: HostRuntime) {
     assert_many(&rt, rt.alloc(), &MANY);
 }
 

@@ -20,6 +20,8 @@ mod printed;
 #[cfg(test)]
 mod rewritings;
 #[cfg(test)]
+mod sections;
+#[cfg(test)]
 mod university;
 #[cfg(test)]
 mod wide;

@@ -31,7 +31,11 @@ fn query_of(rt: &impl Abort, alloc: Global, line: &str) -> Query {
         panic!(rt; "no queries")
     };
     assert!(rt; before.len() <= 1 << 20 && line.len() <= 1 << 20);
-    sure(rt, read_two(alloc, before.as_bytes(), line.as_bytes())).query
+    let read = sure(rt, read_two(alloc, before.as_bytes(), line.as_bytes()));
+    match read.queries.into_iter().next() {
+        Some(asked) => asked.query,
+        None => panic!(rt; "no query"),
+    }
 }
 
 /// The printed queries.

@@ -40,12 +40,15 @@ fn problem_of(rt: &impl Abort, alloc: Global, text: &str) -> Problem {
             Input {
                 names: _,
                 rules,
-                query,
+                queries,
                 facts: _,
             },
         ) => {
             assert!(rt; rules.len() <= 4_096);
-            Problem::new(rules, query)
+            match queries.into_iter().next() {
+                Some(asked) => Problem::new(rules, asked.query),
+                None => panic!(rt; "no query"),
+            }
         }
         Err(_) => panic!(rt; "refused"),
     }

@@ -41,7 +41,8 @@ const QUERIES: [(&str, &str); 4] = [
 fn assert_printed(rt: &impl Abort, alloc: Global, rows: &[(&str, &str)]) {
     for (file, wanted) in rows {
         let input = read(rt, alloc, file);
-        let text = sure(rt, query_text(alloc, &input.names, &input.query));
+        assert!(rt; !input.queries.is_empty());
+        let text = sure(rt, query_text(alloc, &input.names, &input.queries[0].query));
         reads(rt, text.as_slice(), wanted, file);
     }
 }
@@ -121,7 +122,7 @@ fn second_file(
 }
 
 /// What follows two facts in a second file, and the text of its refusal.
-const REFUSED: [(&str, &str); 12] = [
+const REFUSED: [(&str, &str); 11] = [
     ("&", "ucq: file 1 byte 12: bad byte"),
     (
         "? :- p(X), .",
@@ -148,10 +149,6 @@ const REFUSED: [(&str, &str); 12] = [
         "ucq: file 1 statement 2: answer 1 is not in the body",
     ),
     ("", "ucq: no query"),
-    (
-        "? :- p(X). ? :- p(X).",
-        "ucq: file 1 statement 3: second query",
-    ),
 ];
 
 /// Asserts of each rest of a second file what the text of its refusal is.

@@ -4,7 +4,7 @@ ghost use Rattle.std.specs.Prelude.{◌≤◌, ◌^◌, length};
 use crate::asserts::{equal, holds, reads, sure};
 use std::alloc::{AllocError, Global};
 use std::process::Abort;
-use ucq_reader::{Input, ReadFault, made_input, read_files};
+use ucq_reader::{Asked, Input, ReadFault, made_input, read_files};
 use ucq_terms::Names;
 
 const UNIVERSITY: &str = "% a small university
@@ -54,11 +54,23 @@ fn read_two(alloc: Global, first: &[u8], second: &[u8]) -> Result<Input, ReadFau
     read_files(alloc, files.as_slice())
 }
 
-/// How many rules, fact atoms, answers and query atoms there are.
+/// How many rules and fact atoms there are, and for each query its label and how many answers and atoms it has.
 fn counts(alloc: Global, input: &Input) -> Result<String, AllocError> {
     let (rules, facts) = (input.rules.len(), input.facts.len());
-    let (answers, atoms) = (input.query.answers().len(), input.query.atoms().len());
-    format!(in alloc; "{rules} {facts} {answers} {atoms}")
+    let mut line = format!(in alloc; "{rules} {facts}")?;
+    for asked in &input.queries {
+        line.push_str(asked_counts(alloc, asked)?.as_str())?;
+    }
+    Ok(line)
+}
+
+fn asked_counts(alloc: Global, asked: &Asked) -> Result<String, AllocError> {
+    let (answers, atoms) = (asked.query.answers().len(), asked.query.atoms().len());
+    let label = match &asked.label {
+        Some(label) => String::from_utf8_lossy(alloc, label.text())?,
+        None => String::new(alloc),
+    };
+    format!(in alloc; " {label}{answers} {atoms}")
 }
 
 /// The same, or the refusal, as a line.
@@ -117,8 +129,8 @@ const FILES: [(&str, &str); 17] = [
     ("?(a,X) :- p(Y).", "Unsafe { file: 0, number: 0, place: 1 }"),
     ("", "NoQuery"),
     (
-        "? :- p(X). ? :- q(X).",
-        "ManyQueries { file: 0, number: 1 }",
+        "[a] ? :- p(X). ?(X) :- q(X), p(X). [c d] ? :- p(X).",
+        "0 0 [a]0 1 1 2 [c d]0 1",
     ),
 ];
 
@@ -139,11 +151,7 @@ const TWO_FILES: [(&str, &str, &str); 4] = [
         "? :- p(X) & q(X).",
         "BadByte { file: 1, at: 10 }",
     ),
-    (
-        "? :- p(X).",
-        "? :- p(X).",
-        "ManyQueries { file: 1, number: 0 }",
-    ),
+    ("? :- p(X).", "? :- p(X).", "0 0 0 1 0 1"),
     ("p(a), q(Z).", "? :- p(X).", "0 2 0 1"),
 ];
 
@@ -298,12 +306,20 @@ fn made(rt: &impl Abort, alloc: Global, number: u32) -> Input {
     sure(rt, made_input(alloc, number))
 }
 
+/// Asserts that each has one query, without a label, and that the two are equal.
+fn same_queries(rt: &impl Abort, made: &[Asked], read: &[Asked]) {
+    holds(rt, made.len() == 1 && read.len() == 1);
+    assert!(rt; made.len() == 1 && read.len() == 1);
+    holds(rt, made[0].label.is_none() && read[0].label.is_none());
+    holds(rt, made[0].query.same(&read[0].query));
+}
+
 #[test]
 fn made_input_is_what_its_text_stands_for(rt: HostRuntime) {
     let made = made(&rt, rt.alloc(), 1);
     let read = sure(&rt, read_one(rt.alloc(), MADE.as_bytes()));
     holds(&rt, made.rules == read.rules && made.facts == read.facts);
-    holds(&rt, made.query.same(&read.query));
+    same_queries(&rt, &made.queries, &read.queries);
     assert_names(&rt, &made.names, &NAMES);
     assert_names(&rt, &read.names, &NAMES);
 }

@@ -1,13 +1,18 @@
 -- What words ask for is within its ranges.
-use Rattle.std.proofs.Common.{◌≤◌, ℕ, List, arith}
+use Rattle.std.proofs.Common.{◌≡◌, ◌≤◌, ℕ, List, ap, map, arith}
+use Rattle.std.specs.List.{enumerate_from}
 use Rattle.std.specs.Prelude.{Option, Some, None}
+use Rattle.ucq_reader.specs.declared.input.Asked.{Asked}
 use Rattle.ucq_reader.specs.Input.{InputValue}
 use Rattle.ucq_reader.specs.Made.{made}
 use Rattle.ucq_print.specs.Laws.{IsHeldInput}
 use Rattle.ucq_print.proofs.HeldNames.{made_has_texts, numbered_is_held}
 use Rattle.ucq_print.proofs.InputHeld.{input_is_held}
 use Rattle.ucq_words.specs.Settings.{IsNumber, JobValue, files, make, SettingsValue, StandFor}
-use Rattle.ucq_run.specs.Inputs.{IsInputOf}
+use Rattle.ucq_run.specs.declared.form.Form.{Form}
+use Rattle.ucq_run.specs.Finished.{question_of}
+use Rattle.ucq_run.specs.Inputs.{IsInputOf, form_of}
+use Rattle.ucq_run.specs.Parts.{Part, section, header_of, parts_of}
 
 -- a number within its range, which is that of the default too
 pub record IsBetween (least most number : ℕ) : Type 0 where
@@ -23,6 +28,14 @@ budget_within words v stand = between 1 65536 4096 _ v.budget (omega arith) (ome
 
 pub workers_within : (words : List (List ℕ)) (v : SettingsValue) → StandFor words v → IsBetween 1 64 v.workers
 workers_within words v stand = between 1 64 1 _ v.workers (omega arith) (omega arith) stand.settings.workers
+
+-- the parts in the form that is asked for
+abbrev parts_as : SettingsValue → InputValue → Form → List Part
+parts_as settings input form =
+    map (λ (q : ℕ × Asked). section (header_of input.queries q.0 q.1) (record (question_of settings input q.1.query) { form = form })) (enumerate_from 0 input.queries)
+
+pub parts_in_form : (settings : SettingsValue) (input : InputValue) (form : Form) → form ≡ form_of settings → parts_as settings input form ≡ parts_of settings input
+parts_in_form settings input form e = ap (parts_as settings input) e
 
 -- each predicate and constant of the input that is asked has a name
 pub asked_is_held : (held : List ℕ → Option (List ℕ)) (job : JobValue) (input : InputValue) → IsInputOf held job input → IsHeldInput input

@@ -5,7 +5,6 @@ use Rattle.std.specs.Prelude.{Option, Some, None, IfSome, Ok, Err, slice_get, Al
 use Rattle.std.specs.List.{AllZip}
 use Rattle.ucq_outside.specs.Causes.{Rose}
 use Rattle.ucq_reader.specs.declared.ReadFault.{ReadFault}
-use Rattle.ucq_store.specs.Laws.{IsEnough}
 use Rattle.ucq_reader.specs.Input.{InputValue, IsInput, IsNumbered, IsRefused}
 use Rattle.ucq_reader.specs.Made.{made}
 use Rattle.ucq_reader.specs.Outcome.{byte_count}
@@ -14,15 +13,14 @@ use Rattle.ucq_words.specs.Settings.{JobValue, files, make, SettingsValue, Stand
 use Rattle.ucq_run.specs.declared.outcome.Outcome.{Outcome}
 use Rattle.ucq_run.specs.declared.outcome.Outcome.TheVariants.{Finished, Cut, NoMemory, BadWords, ReadFault as ReadFaultAt, TooLong, Refused, WriteFault}
 use Rattle.ucq_run.specs.Outcomes.{status_of}
-use Rattle.ucq_run.specs.Inputs.{Call, AreRead, IsAsked, IsInputOf, IsReadInput, problem_of}
+use Rattle.ucq_run.specs.Inputs.{Call, AreRead, IsAsked, IsInputOf, IsReadInput}
 use Rattle.ucq_run.specs.Causes.{AreRefusedFor, IsCause, IsTooLong, NameFiles}
 use Rattle.ucq_outside.specs.Taken.{SinkChange}
-use Rattle.ucq_run.specs.Finished.{question_of}
 use Rattle.ucq_run.specs.Printed.{PrintsAsked, Prints}
 use Rattle.ucq_run.specs.Run.{AreReadable, AreRefused, IsAnswered, IsDecided, IsReported, IsRun, HoldsFiles, TellsFiles, HasEnough, IsFinishedOrWanting, IsFullRun}
-use Rattle.ucq_run.specs.Parts.{section, parts_of, HasEnoughFor}
-use Rattle.ucq_run.proofs.Sections.{cut_section, parts_some}
-use Rattle.ucq_run.proofs.OneProblem.{enough_of_files, enough_of_numbered}
+use Rattle.ucq_run.specs.Parts.{parts_of, HasEnoughFor}
+use Rattle.ucq_run.proofs.PartTexts.{cut_is_short, parts_some}
+use Rattle.ucq_run.proofs.OneProblem.{enough_of_input, same_input, same_of_files}
 
 -- files that stand for an input aren't refused
 input_or_refusal : (texts : List (List ℕ)) (input : InputValue) (fault : ReadFault) → IsInput texts input → IsRefused texts fault → ⊥
@@ -217,20 +215,17 @@ module _ (one : OneSettings) where
 
   -- ---- a budget that is enough
 
-  -- a cut comes only where the budget isn't enough for what was asked
-  cut_is_short : (call : Call) (out : SinkChange) (o : Outcome) → status_of o ≡ 5 → Prints call out o → (p : PrintsAsked call out o) × ¬ IsEnough (problem_of p.input) p.settings.budget
-  cut_is_short call out Cut e (inl p) = (p, cut_section (question_of p.settings p.input) out p.prints)
-  cut_is_short call out Cut e (inr h) = absurd h.0
-  cut_is_short call out Finished e prints = absurd (omega arith)
-  cut_is_short call out NoMemory e prints = absurd (omega arith)
-  cut_is_short call out BadWords e prints = absurd (omega arith)
-  cut_is_short call out (ReadFaultAt file at) e prints = absurd (omega arith)
-  cut_is_short call out (TooLong file) e prints = absurd (omega arith)
-  cut_is_short call out (Refused fault) e prints = absurd (omega arith)
-  cut_is_short call out WriteFault e prints = absurd (omega arith)
-
-  enough_section : (settings : SettingsValue) (input : InputValue) → All HasEnoughFor (parts_of settings input) → IsEnough (problem_of input) settings.budget
-  enough_section settings input enough = enough 0 (section (question_of settings input)) (omega arith)
+  -- a cut comes only where the budget isn't enough for all that was asked
+  cut_was_short : (call : Call) (out : SinkChange) (o : Outcome) → status_of o ≡ 5 → Prints call out o → (p : PrintsAsked call out o) × ¬ All HasEnoughFor (parts_of p.settings p.input)
+  cut_was_short call out Cut e (inl p) = (p, cut_is_short (parts_of p.settings p.input) out p.prints)
+  cut_was_short call out Cut e (inr h) = absurd h.0
+  cut_was_short call out Finished e prints = absurd (omega arith)
+  cut_was_short call out NoMemory e prints = absurd (omega arith)
+  cut_was_short call out BadWords e prints = absurd (omega arith)
+  cut_was_short call out (ReadFaultAt file at) e prints = absurd (omega arith)
+  cut_was_short call out (TooLong file) e prints = absurd (omega arith)
+  cut_was_short call out (Refused fault) e prints = absurd (omega arith)
+  cut_was_short call out WriteFault e prints = absurd (omega arith)
 
   not_cut : (status : ℕ) → (status ≡ 5 → ⊥) → IsAnswered status → IsFinishedOrWanting status
   not_cut status other (inl (inl e)) = inl e
@@ -242,10 +237,10 @@ module _ (one : OneSettings) where
       IsCause call o → Prints call out o → IsFinishedOrWanting (status_of o)
   only_finished call out o texts settings input told sure short is enough cause prints =
       not_cut (status_of o) (λ e.
-      let (p, isnt) = cut_is_short call out o e prints in
+      let (p, isnt) = cut_was_short call out o e prints in
       let same : settings ≡ p.settings = one call.words settings p.settings enough.stand p.asked.stand in
-      isnt (enough_of_files texts input p.input p.settings.budget is (asked_told call p.settings p.input texts p.asked told.files).1
-      (subst (λ (s : SettingsValue). IsEnough (problem_of input) s.budget) same (enough_section settings input enough.enough))))
+      isnt (enough_of_input p.settings input p.input (same_of_files texts input p.input is (asked_told call p.settings p.input texts p.asked told.files).1)
+      (subst (λ (s : SettingsValue). All HasEnoughFor (parts_of s input)) same enough.enough)))
       (only_answered call out o texts told sure (short, (input, is)) cause prints)
 
   only_finished_made : (call : Call) (out : SinkChange) (o : Outcome) (settings : SettingsValue) (number : ℕ) (input : InputValue) → settings.job ≡ make number →
@@ -253,12 +248,12 @@ module _ (one : OneSettings) where
       IsCause call o → Prints call out o → IsFinishedOrWanting (status_of o)
   only_finished_made call out o settings number input job sure is enough cause prints =
       not_cut (status_of o) (λ e.
-      let (p, isnt) = cut_is_short call out o e prints in
+      let (p, isnt) = cut_was_short call out o e prints in
       let same : settings ≡ p.settings = one call.words settings p.settings enough.stand p.asked.stand in
       let here : IsNumbered (made number) input = subst (λ (j : JobValue). IsInputOf call.held j input) job is in
       let asked : IsNumbered (made number) p.input = subst (λ (j : JobValue). IsInputOf call.held j p.input) (sym (ap (λ (s : SettingsValue). s.job) same) ∙ job) p.asked.has in
-      isnt (enough_of_numbered (made number) input p.input p.settings.budget here asked
-      (subst (λ (s : SettingsValue). IsEnough (problem_of input) s.budget) same (enough_section settings input enough.enough))))
+      isnt (enough_of_input p.settings input p.input (same_input (made number) input p.input here asked)
+      (subst (λ (s : SettingsValue). All HasEnoughFor (parts_of s input)) same enough.enough)))
       (only_made call out o settings number enough.stand job sure cause prints)
 
   -- A run's status is decided so.

@@ -1,7 +1,8 @@
 mod Told
 mod Written
 mod Reported
-mod Sections
+mod PartTexts
+mod InTurn
 mod Printing
 mod Unknowns
 mod OneSize
@@ -10,6 +11,8 @@ mod Asking
 mod Answered
 mod Solved
 mod Decided
+mod InputLimits
+mod SectionsTold
 mod FilesRead
 mod OverFacts
 mod Agreed

@@ -1,6 +1,8 @@
--- Inputs of one meaning have one problem, up to the order of the query's atoms, and a budget is enough for all or for none.
-use Rattle.std.proofs.Common.{◌≡◌, ℕ, zero, suc, List, map, sym, ap, ◌∙◌, subst}
-use Rattle.std.specs.Prelude.{Result, Ok}
+-- Inputs of one meaning have the same problems, up to the order of a query's atoms, and a budget is enough for all or for none.
+use Rattle.std.proofs.Common.{◌≡◌, ◌+◌, ℕ, zero, suc, All, List, [], ◌∷◌, map, refl, sym, ap, ◌∙◌, subst, arith}
+use Rattle.std.proofs.lemmas.List.Elements.{All-cons, All-nil}
+use Rattle.std.specs.List.{AllZip, enumerate_from}
+use Rattle.std.specs.Prelude.{Result, Ok, Some, slice_get}
 use Rattle.ucq_terms.specs.Syntax.{Rule, Query, Problem, IsSubset, IsSameSet}
 use Rattle.ucq_terms.specs.Homomorphism.{Covers, IsEquivalent, IsCoreOf}
 use Rattle.ucq_terms.specs.Rewriting.{IsInLevel}
@@ -10,10 +12,13 @@ use Rattle.ucq_terms.proofs.Subsets.{IsSubset-trans}
 use Rattle.ucq_terms.proofs.Maps.{Covers-refl, Covers-trans}
 use Rattle.ucq_store.specs.Laws.{IsCoveredByLevels, IsEnough}
 use Rattle.ucq_reader.specs.declared.ReadFault.{ReadFault}
-use Rattle.ucq_reader.specs.Meaning.{Meant, SymbolQuery}
-use Rattle.ucq_reader.specs.Input.{InputValue, IsInput, IsNumbered, IsQueryOf, rule_value}
+use Rattle.ucq_reader.specs.declared.input.Asked.{Asked}
+use Rattle.ucq_reader.specs.Meaning.{Meant, SymbolAsked, SymbolQuery}
+use Rattle.ucq_reader.specs.Input.{InputValue, IsAskedOf, IsInput, IsNumbered, IsQueryOf, rule_value}
 use Rattle.ucq_reader.proofs.Refusals.{meaning_unique}
+use Rattle.ucq_words.specs.Settings.{SettingsValue}
 use Rattle.ucq_run.specs.Inputs.{problem_of}
+use Rattle.ucq_run.specs.Parts.{HasEnoughFor, parts_of, section_of}
 use Rattle.ucq_run.specs.Finished.{AreChaseAnswers}
 use Rattle.ucq_run.proofs.Unknowns.{answers_move}
 
@@ -74,20 +79,70 @@ query_of_same names q a b h k =
     same_atoms a b (h.answers ∙ sym k.answers)
     (IsSubset-trans a.atoms _ b.atoms h.atoms.0 k.atoms.1, IsSubset-trans b.atoms _ a.atoms k.atoms.0 h.atoms.1)
 
-pub enough_of_numbered : (meant : Meant) (a b : InputValue) (budget : ℕ) → IsNumbered meant a → IsNumbered meant b → IsEnough (problem_of a) budget → IsEnough (problem_of b) budget
-enough_of_numbered meant a b budget h k enough =
+-- ---- queries of one meaning
+
+-- two queries of one place mean the same
+pub record AreSameAsked (x y : Asked) : Type 0 where
+  pub label : x.label ≡ y.label
+  pub query : IsEquivalent x.query y.query
+
+same_asked : (names : List (List ℕ)) (m : SymbolAsked) (x y : Asked) → IsAskedOf names m x → IsAskedOf names m y → AreSameAsked x y
+same_asked names m x y h k = record { label = h.label ∙ sym k.label; query = query_of_same names m.query x.query y.query h.query k.query }
+
+zipped_same : (names : List (List ℕ)) (ms : List SymbolAsked) (xs ys : List Asked) → AllZip (IsAskedOf names) ms xs → AllZip (IsAskedOf names) ms ys → AllZip AreSameAsked xs ys
+zipped_same names [] [] [] h k = tt
+zipped_same names [] [] (y ∷ ys) h k = absurd k
+zipped_same names [] (x ∷ xs) ys h k = absurd h
+zipped_same names (m ∷ ms) [] ys h k = absurd h
+zipped_same names (m ∷ ms) (x ∷ xs) [] h k = absurd k
+zipped_same names (m ∷ ms) (x ∷ xs) (y ∷ ys) h k = (same_asked names m x y h.0 k.0, zipped_same names ms xs ys h.1 k.1)
+
+-- Inputs of one meaning: the names and rules are the same, and the queries, one by one.
+pub record AreSameInput (a b : InputValue) : Type 0 where
+  pub names : a.names ≡ b.names
+  pub rules : a.rules ≡ b.rules
+  pub queries : AllZip AreSameAsked a.queries b.queries
+
+pub same_input : (meant : Meant) (a b : InputValue) → IsNumbered meant a → IsNumbered meant b → AreSameInput a b
+same_input meant a b h k =
     let names : a.names ≡ b.names = h.names ∙ sym k.names in
-    let rules : a.rules ≡ b.rules = h.rules ∙ (ap (λ ns. map (rule_value ns) meant.rules) names ∙ sym k.rules) in
-    let query : IsEquivalent a.query b.query = query_of_same b.names meant.query a.query b.query (subst (λ ns. IsQueryOf ns meant.query a.query) names h.query) k.query in
-    enough_of_same b.rules a.query b.query budget query (subst (λ (rs : List Rule). IsEnough (problem_with rs a.query) budget) rules enough)
+    record {
+      names = names;
+      rules = h.rules ∙ (ap (λ ns. map (rule_value ns) meant.rules) names ∙ sym k.rules);
+      queries = zipped_same b.names meant.queries a.queries b.queries (subst (λ ns. AllZip (IsAskedOf ns) meant.queries a.queries) names h.queries) k.queries;
+    }
+
+-- the query of a number, in both
+pub same_at : (xs ys : List Asked) (number : ℕ) (x : Asked) → AllZip AreSameAsked xs ys → slice_get xs number ≡ Some x →
+    (y : Asked) × (slice_get ys number ≡ Some y) × AreSameAsked x y
+same_at [] ys number x h at = absurd cc
+same_at (z ∷ xs) [] number x h at = absurd h
+same_at (z ∷ xs) (y ∷ ys) zero x h at = let same : z ≡ x = cc in (y, refl, subst (λ (a : Asked). AreSameAsked a y) same h.0)
+same_at (z ∷ xs) (y ∷ ys) (suc number) x h at = same_at xs ys number x h.1 at
+
+-- a budget is enough for both
+enough_of_asked : (a b : InputValue) (x y : Asked) (budget : ℕ) → a.rules ≡ b.rules → AreSameAsked x y → IsEnough (problem_of a x.query) budget → IsEnough (problem_of b y.query) budget
+enough_of_asked a b x y budget rules same enough =
+    enough_of_same b.rules x.query y.query budget same.query (subst (λ (rs : List Rule). IsEnough (problem_with rs x.query) budget) rules enough)
+
+enough_from : (settings : SettingsValue) (a b : InputValue) (n : ℕ) (xs ys : List Asked) → a.rules ≡ b.rules → AllZip AreSameAsked xs ys →
+    All HasEnoughFor (map (section_of settings a) (enumerate_from n xs)) → All HasEnoughFor (map (section_of settings b) (enumerate_from n ys))
+enough_from settings a b n [] [] rules h enough = All-nil HasEnoughFor
+enough_from settings a b n [] (y ∷ ys) rules h enough = absurd h
+enough_from settings a b n (x ∷ xs) [] rules h enough = absurd h
+enough_from settings a b n (x ∷ xs) (y ∷ ys) rules h enough =
+    All-cons HasEnoughFor (section_of settings b (n, y)) (map (section_of settings b) (enumerate_from (n + 1) ys))
+    (enough_of_asked a b x y settings.budget rules h.0 (enough 0 (section_of settings a (n, x)) (omega arith)))
+    (enough_from settings a b (n + 1) xs ys rules h.1 (λ k d l. enough (suc k) d (omega (arith, l))))
+
+-- where a budget is enough for the one it is for the other
+pub enough_of_input : (settings : SettingsValue) (a b : InputValue) → AreSameInput a b → All HasEnoughFor (parts_of settings a) → All HasEnoughFor (parts_of settings b)
+enough_of_input settings a b same enough = enough_from settings a b 0 a.queries b.queries same.rules same.queries enough
 
 -- an exact union of the one problem is one of the other
-pub exact_of_numbered : (meant : Meant) (a b : InputValue) (union : List Query) → IsNumbered meant a → IsNumbered meant b → IsExact (problem_of a) union → IsExact (problem_of b) union
-exact_of_numbered meant a b union h k exact =
-    let names : a.names ≡ b.names = h.names ∙ sym k.names in
-    let rules : a.rules ≡ b.rules = h.rules ∙ (ap (λ ns. map (rule_value ns) meant.rules) names ∙ sym k.rules) in
-    let query : IsEquivalent a.query b.query = query_of_same b.names meant.query a.query b.query (subst (λ ns. IsQueryOf ns meant.query a.query) names h.query) k.query in
-    equivalent_keeps_exact b.rules a.query b.query union query (subst (λ (rs : List Rule). IsExact (problem_with rs a.query) union) rules exact)
+pub exact_of_asked : (a b : InputValue) (x y : Asked) (union : List Query) → a.rules ≡ b.rules → AreSameAsked x y → IsExact (problem_of a x.query) union → IsExact (problem_of b y.query) union
+exact_of_asked a b x y union rules same exact =
+    equivalent_keeps_exact b.rules x.query y.query union same.query (subst (λ (rs : List Rule). IsExact (problem_with rs x.query) union) rules exact)
 
 abbrev stands_for : Meant → Result Meant ReadFault
 stands_for meant = Ok meant
@@ -95,27 +150,15 @@ stands_for meant = Ok meant
 one_meant : (a b : Meant) → stands_for a ≡ stands_for b → a ≡ b
 one_meant a b e = cc
 
--- files stand for one problem, so a budget is enough for all inputs that they stand for, or for none
-pub enough_of_files :
-    (texts : List (List ℕ)) (a b : InputValue) (budget : ℕ) → IsInput texts a → IsInput texts b → IsEnough (problem_of a) budget → IsEnough (problem_of b) budget
-enough_of_files texts a b budget h k enough =
+-- files stand for inputs of one meaning
+pub same_of_files : (texts : List (List ℕ)) (a b : InputValue) → IsInput texts a → IsInput texts b → AreSameInput a b
+same_of_files texts a b h k =
     let same : h.0 ≡ k.0 = one_meant h.0 k.0 (meaning_unique texts (stands_for h.0) (stands_for k.0) h.1 k.1) in
-    enough_of_numbered k.0 a b budget (subst (λ (m : Meant). IsNumbered m a) same h.2) k.2 enough
+    same_input k.0 a b (subst (λ (m : Meant). IsNumbered m a) same h.2) k.2
 
--- and have the same names, and the same exact unions
-pub names_of_files : (texts : List (List ℕ)) (a b : InputValue) → IsInput texts a → IsInput texts b → a.names ≡ b.names
-names_of_files texts a b h k =
+-- and so the answers of their problems are the same, whatever the numbers of their unknown values
+pub answers_of_files : (texts : List (List ℕ)) (a b : InputValue) (p r : Problem) (union : List Query) (tuples : List (List ℕ)) → IsInput texts a → IsInput texts b →
+    IsExact p union → IsExact r union → AreChaseAnswers a.names p a.facts tuples → AreChaseAnswers b.names r b.facts tuples
+answers_of_files texts a b p r union tuples h k of_p of_r answers =
     let same : h.0 ≡ k.0 = one_meant h.0 k.0 (meaning_unique texts (stands_for h.0) (stands_for k.0) h.1 k.1) in
-    (subst (λ (m : Meant). IsNumbered m a) same h.2).names ∙ sym k.2.names
-
-pub exact_of_files : (texts : List (List ℕ)) (a b : InputValue) (union : List Query) → IsInput texts a → IsInput texts b → IsExact (problem_of a) union → IsExact (problem_of b) union
-exact_of_files texts a b union h k exact =
-    let same : h.0 ≡ k.0 = one_meant h.0 k.0 (meaning_unique texts (stands_for h.0) (stands_for k.0) h.1 k.1) in
-    exact_of_numbered k.0 a b union (subst (λ (m : Meant). IsNumbered m a) same h.2) k.2 exact
-
--- and the same answers, whatever the numbers of their unknown values
-pub answers_of_files : (texts : List (List ℕ)) (a b : InputValue) (union : List Query) (tuples : List (List ℕ)) → IsInput texts a → IsInput texts b →
-    IsExact (problem_of a) union → IsExact (problem_of b) union → AreChaseAnswers a.names (problem_of a) a.facts tuples → AreChaseAnswers b.names (problem_of b) b.facts tuples
-answers_of_files texts a b union tuples h k of_a of_b answers =
-    let same : h.0 ≡ k.0 = one_meant h.0 k.0 (meaning_unique texts (stands_for h.0) (stands_for k.0) h.1 k.1) in
-    answers_move k.0 a b (problem_of a) (problem_of b) union tuples (subst (λ (m : Meant). IsNumbered m a) same h.2) k.2 of_a of_b answers
+    answers_move k.0 a b p r union tuples (subst (λ (m : Meant). IsNumbered m a) same h.2) k.2 of_p of_r answers

@@ -4,7 +4,7 @@ use Rattle.std.proofs.lemmas.List.{append-nil}
 use Rattle.std.specs.Prelude.{Option, Some, None, Result, Ok, Err, IfOk}
 use Rattle.std.specs.Global.{Vec}
 use Rattle.ucq_reader.specs.declared.ReadFault.{ReadFault}
-use Rattle.ucq_reader.specs.declared.ReadFault.TheVariants.{BadByte, BadStatement, OpenEnd, UnknownPrefix, NotBuilt, Limit, Unsafe, TooMany, NoQuery, ManyQueries, Memory}
+use Rattle.ucq_reader.specs.declared.ReadFault.TheVariants.{BadByte, BadStatement, OpenEnd, UnknownPrefix, NotBuilt, Limit, Unsafe, TooMany, NoQuery, Memory}
 use Rattle.ucq_reader.specs.Outcome.{OrMemory}
 use Rattle.ucq_run.specs.declared.outcome.Outcome.{Outcome}
 use Rattle.ucq_run.specs.declared.outcome.Outcome.TheVariants.{NoMemory}
@@ -40,5 +40,4 @@ but_memory P (Limit file number which count) other h = h
 but_memory P (Unsafe file number place) other h = h
 but_memory P (TooMany which count) other h = h
 but_memory P NoQuery other h = h
-but_memory P (ManyQueries file number) other h = h
 but_memory P Memory other h = absurd (other refl)

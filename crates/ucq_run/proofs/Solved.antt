@@ -1,25 +1,25 @@
 -- What was solved, for the question that is asked.
 use Rattle.std.proofs.Common.{◌≡◌, ◌≢◌, ◌<◌, ◌^◌, ℕ, List, length, subst}
 use Rattle.std.specs.Prelude.{◌⊎◌}
-use Rattle.ucq_terms.specs.Syntax.{Atom, Query}
+use Rattle.ucq_terms.specs.Syntax.{Atom, Problem, Query}
 use Rattle.ucq_terms.specs.Union.{IsExact}
 use Rattle.ucq_antichain.specs.Rows.{live_queries}
 use Rattle.ucq_store.specs.Store.{Store, IsCut, IsFinished}
 use Rattle.ucq_eval.specs.Answers.{AnswersValue, AreAnswers}
 use Rattle.ucq_eval.specs.Laws.{AnswersAreChaseAnswers}
 use Rattle.ucq_print.specs.Laws.{ArePrintable, ArePrintableTuples}
-use Rattle.ucq_run.specs.declared.asked.Asked.{Asked}
+use Rattle.ucq_run.specs.declared.request.Shared.{Shared}
 use Rattle.ucq_run.specs.declared.form.Form.TheVariants.{Queries}
-use Rattle.ucq_run.specs.inner.Asked.{IsAbout}
+use Rattle.ucq_run.specs.inner.Request.{IsAbout}
 use Rattle.ucq_run.specs.Finished.{AreChaseAnswers}
 use Rattle.ucq_run.specs.inner.Solved.{IsSolved}
 use Rattle.ucq_run.proofs.AnswerNames.{printed_answers}
 use Rattle.ucq_run.proofs.OverFacts.{answers_of_chase}
 
 -- a store that is finished or cut, with the answers of its live queries
-pub solved_with_answers : (a : Asked) (s : Store) (found : AnswersValue) (union : List Query) → IsFinished s ⊎ IsCut s → s.problem ≡ a.problem → s.budget ≡ a.budget →
-    union ≡ live_queries s.rows → found.names ≡ a.names → AreAnswers a.names union a.facts found.tuples → IsSolved a (record { store = s; answers = found })
-solved_with_answers a s found union ended problem budget live names answers = record {
+pub solved_with_answers : (a : Shared) (p : Problem) (s : Store) (found : AnswersValue) (union : List Query) → IsFinished s ⊎ IsCut s → s.problem ≡ p → s.budget ≡ a.budget →
+    union ≡ live_queries s.rows → found.names ≡ a.names → AreAnswers a.names union a.facts found.tuples → IsSolved a p (record { store = s; answers = found })
+solved_with_answers a p s found union ended problem budget live names answers = record {
   ended = ended;
   problem = problem;
   budget = budget;
@@ -28,9 +28,9 @@ solved_with_answers a s found union ended problem budget live names answers = re
 }
 
 -- and one whose answers aren't asked for, or that is cut
-pub solved_without_answers : (a : Asked) (s : Store) (found : AnswersValue) → IsFinished s ⊎ IsCut s → s.problem ≡ a.problem → s.budget ≡ a.budget →
-    (IsFinished s → a.form ≡ Queries) → found.names ≡ a.names → IsSolved a (record { store = s; answers = found })
-solved_without_answers a s found ended problem budget none names = record {
+pub solved_without_answers : (a : Shared) (p : Problem) (s : Store) (found : AnswersValue) → IsFinished s ⊎ IsCut s → s.problem ≡ p → s.budget ≡ a.budget →
+    (IsFinished s → a.form ≡ Queries) → found.names ≡ a.names → IsSolved a p (record { store = s; answers = found })
+solved_without_answers a p s found ended problem budget none names = record {
   ended = ended;
   problem = problem;
   budget = budget;
@@ -39,9 +39,9 @@ solved_without_answers a s found ended problem budget none names = record {
 }
 
 -- the answers that were found over the index are those of the chase over the facts
-pub solved_answers : AnswersAreChaseAnswers → (a : Asked) (facts : List Atom) (union : List Query) (tuples : List (List ℕ)) → IsAbout a facts → IsExact a.problem union →
+pub solved_answers : AnswersAreChaseAnswers → (a : Shared) (p : Problem) (facts : List Atom) (union : List Query) (tuples : List (List ℕ)) → IsAbout a facts → IsExact p union →
     ArePrintable a.names union → length tuples < 2 ^ 64 → a.form ≢ Queries → AreAnswers a.names union a.facts tuples →
-    AreChaseAnswers a.names a.problem facts tuples × ArePrintableTuples a.names tuples
-solved_answers law a facts union tuples about exact printable few asks answers =
-    printed_answers a.names a.problem union facts tuples exact printable about.held few
-    (answers_of_chase law a.names a.problem union a.facts facts tuples (about.indexed asks) exact answers)
+    AreChaseAnswers a.names p facts tuples × ArePrintableTuples a.names tuples
+solved_answers law a p facts union tuples about exact printable few asks answers =
+    printed_answers a.names p union facts tuples exact printable about.held few
+    (answers_of_chase law a.names p union a.facts facts tuples (about.indexed asks) exact answers)

@@ -1,5 +1,5 @@
 -- The text of a part that is cut.
-use Rattle.std.specs.Prelude.{◌≡◌, ◌⊎◌, ℕ, List}
+use Rattle.std.specs.Prelude.{◌≡◌, ◌<◌, ◌≤◌, ◌⊎◌, ℕ, List, length}
 use Rattle.ucq_terms.specs.Syntax.{Problem, Query}
 use Rattle.ucq_antichain.specs.declared.Row.{Row}
 use Rattle.ucq_store.specs.Lawful.{IsLeftOver, IsTooWide}
@@ -19,19 +19,22 @@ pub record IsRowsCutText (names : List (List ℕ)) (problem : Problem) (budget :
   pub printable_left : IsPrintable names left
   pub printed : text ≡ rows_cut_text names budget rows left
 
--- The text of a cut at a wide rewriting: of a cut listing, of which that row has with that rule a rewriting that is too wide.
-pub record IsWideCutText (names : List (List ℕ)) (problem : Problem) (text : List ℕ) : Type 0 where
+-- The text of a cut at a wide rewriting: of a cut listing of at most so many rows, of which that row has with that rule of the
+-- problem a rewriting that is too wide.
+pub record IsWideCutText (names : List (List ℕ)) (problem : Problem) (budget : ℕ) (text : List ℕ) : Type 0 where
   pub rows : List Row
   pub row : ℕ
   pub rule : ℕ
   pub width : ℕ
   pub listing : IsCutListing problem rows
+  pub within : length rows ≤ budget
   pub wide : IsTooWide problem.rules rows row rule width
+  pub rule_of : rule < length problem.rules
   pub printable : ArePrintableRows names rows
   pub printed : text ≡ wide_cut_text names row rule rows
 
 abbrev pub IsCutText : List (List ℕ) → Problem → ℕ → List ℕ → Type 0
-IsCutText names problem budget text = IsRowsCutText names problem budget text ⊎ IsWideCutText names problem text
+IsCutText names problem budget text = IsRowsCutText names problem budget text ⊎ IsWideCutText names problem budget text
 
 -- the text of a cut, which comes only where the budget isn't enough
 pub record IsCutTextOf (q : Question) (text : List ℕ) : Type 0 where

@@ -22,9 +22,9 @@ pub record Question : Type 0 where
   pub facts : List Atom
   pub budget : ℕ
 
--- what settings ask of an input
-abbrev pub question_of : SettingsValue → InputValue → Question
-question_of settings input = record { form = form_of settings; names = input.names; problem = problem_of input; facts = input.facts; budget = settings.budget }
+-- what settings ask of an input about one of its queries
+abbrev pub question_of : SettingsValue → InputValue → Query → Question
+question_of settings input query = record { form = form_of settings; names = input.names; problem = problem_of input query; facts = input.facts; budget = settings.budget }
 
 -- the facts are just these atoms
 pub record AreFactsOf (atoms facts : List Atom) : Type 0 where

@@ -2,7 +2,7 @@
 use Rattle.std.specs.Prelude.{◌≡◌, ◌≤◌, ◌^◌, ℕ, Bool, true, false, List, length, Option, IfSome}
 use Rattle.ucq_lexer.specs.declared.TheConstants.{BYTES}
 use Rattle.std.specs.List.{AllZip}
-use Rattle.ucq_terms.specs.Syntax.{Problem}
+use Rattle.ucq_terms.specs.Syntax.{Problem, Query}
 use Rattle.ucq_reader.specs.Input.{InputValue, IsInput, IsNumbered}
 use Rattle.ucq_reader.specs.Outcome.{byte_count}
 use Rattle.ucq_reader.specs.Made.{made}
@@ -41,9 +41,9 @@ abbrev pub IsJobWithin : JobValue → Type 0
 IsJobWithin (files names) = (1 ≤ length names) × (length names ≤ 64)
 IsJobWithin (make number) = (1 ≤ number) × (number ≤ 4000)
 
--- the problem of an input's rules and query
-abbrev pub problem_of : InputValue → Problem
-problem_of input = record { rules = input.rules; query = input.query }
+-- the problem of an input's rules and one of its queries
+abbrev pub problem_of : InputValue → Query → Problem
+problem_of input query = record { rules = input.rules; query = query }
 
 -- how a finished union of a job is printed: its counts where the input is made, else its queries, with answers where they are asked for
 abbrev pub job_form : Bool → JobValue → Form

@@ -1,5 +1,5 @@
 -- What a run prints.
-use Rattle.std.specs.Prelude.{◌≡◌, ◌⊎◌, ℕ, List, [], take, Result, Ok, Err}
+use Rattle.std.specs.Prelude.{◌≡◌, ◌⊎◌, ℕ, Bool, true, false, List, [], take, Result, Ok, Err}
 use Rattle.ucq_outside.specs.Causes.{Rose}
 use Rattle.ucq_outside.specs.Taken.{SinkChange, TookAll, TookPrefix}
 use Rattle.ucq_reader.specs.Input.{InputValue}
@@ -9,9 +9,7 @@ use Rattle.ucq_run.specs.declared.outcome.Outcome.TheVariants.{Finished, Cut, No
 use Rattle.ucq_run.specs.declared.writing.Unwritten.{Unwritten}
 use Rattle.ucq_run.specs.declared.writing.Unwritten.TheVariants.{Failed, Memory}
 use Rattle.ucq_run.specs.Inputs.{Call, IsAsked}
-use Rattle.ucq_run.specs.Finished.{Question, IsFinishedText}
-use Rattle.ucq_run.specs.Cuts.{IsCutTextOf}
-use Rattle.ucq_run.specs.Parts.{Part, PartText, parts_of, AreTextsOf, join, NoneIsCut, SomeIsCut}
+use Rattle.ucq_run.specs.Parts.{Part, PartText, parts_of, IsTextOf, AreTextsOf, join, NoneIsCut, SomeIsCut}
 
 -- this outcome, where all was written
 abbrev pub IsWrittenAs : Result (Unit {0}) Unwritten → Outcome → Outcome → Type 0
@@ -19,22 +17,31 @@ IsWrittenAs (Ok u) whole outcome = outcome ≡ whole
 IsWrittenAs (Err Failed) whole outcome = outcome ≡ WriteFault
 IsWrittenAs (Err Memory) whole outcome = outcome ≡ NoMemory
 
--- ---- a section
+-- ---- a part
 
--- it took a prefix of a finished text, or of a cut one
-abbrev pub PrintsPartOf : Question → SinkChange → Type 0
-PrintsPartOf q out = (text : List ℕ) × (IsFinishedText q text ⊎ IsCutTextOf q text) × TookPrefix out text
+-- it took a prefix of the part's text
+abbrev pub PrintsSome : Part → SinkChange → Type 0
+PrintsSome part out = (written : PartText) × IsTextOf part written × TookPrefix out written.text
 
--- What the output took of a section: a finished text whole, or a cut one; a prefix of one, where its count of faults rose; one of
--- these or nothing, for want of memory.
-abbrev pub PrintsFor : Question → SinkChange → Outcome → Type 0
-PrintsFor q out Finished = (text : List ℕ) × IsFinishedText q text × TookAll out text
-PrintsFor q out Cut = (text : List ℕ) × IsCutTextOf q text × TookAll out text
-PrintsFor q out WriteFault = Rose out.faults_before out.faults_after × PrintsPartOf q out
-PrintsFor q out NoMemory = TookAll out [] ⊎ PrintsPartOf q out
-PrintsFor q out _ = ⊥
+-- it took the part's text whole, which is that of a cut or isn't
+abbrev pub PrintsWhole : Part → SinkChange → Bool → Type 0
+PrintsWhole part out cut = (text : List ℕ) × IsTextOf part (record { text = text; cut = cut }) × TookAll out text
+
+-- What the output took of a part: its text whole, finished or cut; a prefix of it, where its count of faults rose; one of these or
+-- nothing, for want of memory.
+abbrev pub PrintsFor : Part → SinkChange → Outcome → Type 0
+PrintsFor part out Finished = PrintsWhole part out false
+PrintsFor part out Cut = PrintsWhole part out true
+PrintsFor part out WriteFault = Rose out.faults_before out.faults_after × PrintsSome part out
+PrintsFor part out NoMemory = TookAll out [] ⊎ PrintsSome part out
+PrintsFor part out _ = ⊥
 
 -- ---- all parts
+
+-- the outcome where all are printed whole
+abbrev pub ended : Bool → Outcome
+ended true = Cut
+ended false = Finished
 
 -- the texts of all parts, whole and in their order, of which this holds
 pub record PrintsAll (parts : List Part) (out : SinkChange) (P : List PartText → Type 0) : Type 0 where

@@ -1,5 +1,5 @@
 -- Words of contracts that no other crate sees.
-pub mod Asked
 pub mod Reading
+pub mod Request
 pub mod Solved
 pub mod Written

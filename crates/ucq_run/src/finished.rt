@@ -8,7 +8,7 @@ ghost use Rattle.ucq_run.specs.inner.Reading.{IsWritten};
 ghost use Rattle.ucq_run.specs.inner.Written.{row_texts};
 
 use crate::texts::AnswersText;
-use crate::writing::{Unwritten, write_made, write_text};
+use crate::writing::{Unwritten, write_bytes, write_made, write_text};
 use std::alloc::Global;
 use ucq_eval::Answers;
 use ucq_outside::Sink;
@@ -54,7 +54,7 @@ fn write_head<K: Sink>(alloc: Global, sink: &mut K, count: u32) -> Result<(), Un
 }
 
 /// Writes the finished text of the live rows.
-pub fn write_finished<K: Sink, R: Rows>(
+fn write_union<K: Sink, R: Rows>(
     alloc: Global,
     sink: &mut K,
     names: &Names,
@@ -69,10 +69,28 @@ pub fn write_finished<K: Sink, R: Rows>(
     write_live(alloc, sink, names, rows)
 }
 
-/// Writes the finished text of the live rows, and the answers.
+/// Writes the header and the finished text of the live rows.
+pub fn write_finished<K: Sink, R: Rows>(
+    alloc: Global,
+    sink: &mut K,
+    header: &[u8],
+    names: &Names,
+    rows: &R,
+) -> Result<(), Unwritten>
+    ensures written { IsWritten
+        (change_of (K.taken sink.old) (K.taken sink.new) (K.faults sink.old) (K.faults sink.new))
+        (header.now ++ finished_text names.now (live_queries (R.value rows.now).rows)) result }
+    ensures later { K.faults sink.old ≤ K.faults sink.new }
+{
+    write_bytes(sink, header)?;
+    write_union(alloc, sink, names, rows)
+}
+
+/// Writes the header, the finished text of the live rows, and the answers.
 pub fn write_answered<K: Sink, R: Rows>(
     alloc: Global,
     sink: &mut K,
+    header: &[u8],
     names: &Names,
     rows: &R,
     answers: &Answers,
@@ -80,11 +98,12 @@ pub fn write_answered<K: Sink, R: Rows>(
     requires { answers.now.names ≡ names.now }
     ensures written { IsWritten
         (change_of (K.taken sink.old) (K.taken sink.new) (K.faults sink.old) (K.faults sink.new))
-        (answered_text names.now (live_queries (R.value rows.now).rows) answers.now.tuples)
+        (header.now
+        ++ answered_text names.now (live_queries (R.value rows.now).rows) answers.now.tuples)
         result }
     ensures later { K.faults sink.old ≤ K.faults sink.new }
 {
-    write_finished(alloc, sink, names, rows)?;
+    write_finished(alloc, sink, header, names, rows)?;
     write_text(alloc, sink, &AnswersText { answers })
 }
 

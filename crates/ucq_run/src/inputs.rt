@@ -1,6 +1,6 @@
 //! The input of a job: read from its files, or made.
 ghost use Rattle.std.specs.Prelude.{◌≡◌, ◌<◌, ◌≤◌, ◌+◌, ◌^◌, IfOk, IfSome, MatchResult, List, ℕ, map, string_bytes, length, vec_len};
-ghost use Rattle.ucq_terms.specs.declared.TheConstants.{FACTS, RULES};
+ghost use Rattle.ucq_terms.specs.declared.TheConstants.{FACTS, QUERIES, RULES};
 ghost use Rattle.ucq_reader.specs.Outcome.{IsFault, byte_count, input_value, texts as texts_of};
 ghost use Rattle.ucq_words.specs.Settings.{job_value};
 ghost use Rattle.ucq_run.specs.Inputs.{AreRead, IsInputOf, IsJobWithin, IsReadInput};
@@ -93,6 +93,7 @@ fn read_input<H: Shelf>(alloc: Global, shelf: &mut H, names: &[String]) -> Resul
         HaveCause (H.held shelf.old) (map string_bytes names.now) (H.faults shelf.old)
         (H.faults shelf.new) outcome) }
     ensures rules { IfOk result (λ input. length (input_value input).rules ≤ RULES) }
+    ensures queries { IfOk result (λ input. length (input_value input).queries ≤ QUERIES) }
     ensures facts { IfOk result (λ input. length (input_value input).facts ≤ FACTS) }
     ensures later { H.faults shelf.old ≤ H.faults shelf.new }
 {
@@ -116,6 +117,7 @@ pub fn input_of<H: Shelf>(alloc: Global, shelf: &mut H, job: &Job) -> Result<Inp
         IsJobCause (H.held shelf.old) (job_value job.now) (H.faults shelf.old)
         (H.faults shelf.new) outcome) }
     ensures rules { IfOk result (λ input. length (input_value input).rules ≤ RULES) }
+    ensures queries { IfOk result (λ input. length (input_value input).queries ≤ QUERIES) }
     ensures facts { IfOk result (λ input. length (input_value input).facts ≤ FACTS) }
     ensures later { H.faults shelf.old ≤ H.faults shelf.new }
 {

@@ -1,4 +1,4 @@
-//! From what was solved to the printed union, or the printed cut.
+//! From what was solved of a query to its printed section: of a union, or of a cut.
 ghost use Rattle.std.specs.Prelude.{◌≡◌, ◌≢◌, ◌≤◌, ℕ, IfOk, List, length};
 ghost use Rattle.ucq_terms.specs.Syntax.{Atom as AtomValue, Problem as ProblemValue};
 ghost use Rattle.ucq_terms.specs.Union.{IsExact};
@@ -9,19 +9,20 @@ ghost use Rattle.ucq_store.specs.Lawful.{IsLawfulByLevels};
 ghost use Rattle.ucq_print.specs.Laws.{ArePrintable, ArePrintableTuples};
 ghost use Rattle.ucq_run.specs.declared.form.Form.{Form as FormValue};
 ghost use Rattle.ucq_run.specs.declared.form.Form.TheVariants.{Queries, Answers, Counts};
-ghost use Rattle.ucq_run.specs.inner.Asked.{IsAbout, IsWithinLimits, question_in};
+ghost use Rattle.ucq_run.specs.inner.Request.{IsAbout, IsWithinLimits, question_in};
 ghost use Rattle.ucq_run.specs.Finished.{AreChaseAnswers};
 ghost use Rattle.ucq_outside.specs.Taken.{change_of};
+ghost use Rattle.ucq_run.specs.Parts.{section};
 ghost use Rattle.ucq_run.specs.Printed.{IsWrittenAs, PrintsFor};
 ghost use Rattle.ucq_run.specs.inner.Solved.{IsSolved};
 
-use crate::asked::Asked;
 use crate::finished::{atom_count, write_answered, write_finished};
 use crate::form::Form;
 use crate::outcome::Outcome;
+use crate::request::Shared;
 use crate::solving::Solved;
 use crate::texts::{CutText, SummaryText};
-use crate::writing::{Unwritten, write_text};
+use crate::writing::{Unwritten, write_headed};
 use std::alloc::Global;
 use ucq_eval::Answers as Answered;
 use ucq_eval::laws::answers_are_chase_answers;
@@ -29,7 +30,7 @@ use ucq_outside::Sink;
 use ucq_print::{Rows, live_count};
 use ucq_store::Store;
 use ucq_store::laws::{cut_listing, enough_budget};
-use ucq_terms::{Names, NoMemory};
+use ucq_terms::Names;
 
 /// The outcome of writing, which is this one where all was written.
 fn written(answer: Result<(), Unwritten>, whole: Outcome) -> Outcome
@@ -42,29 +43,40 @@ fn written(answer: Result<(), Unwritten>, whole: Outcome) -> Outcome
     }
 }
 
-/// Prints the queries of an exact union, of the live rows.
-fn print_queries<K: Sink, R: Rows>(alloc: Global, names: &Names, rows: &R, out: &mut K) -> Outcome
+/// Prints the queries of an exact union, of the live rows, behind the header.
+fn print_queries<K: Sink, R: Rows>(
+    alloc: Global,
+    header: &[u8],
+    names: &Names,
+    rows: &R,
+    out: &mut K,
+) -> Outcome
     ensures prints { (problem : ProblemValue) (facts : List AtomValue) (budget : ℕ) →
         IsExact problem (live_queries (R.value rows.now).rows) →
         ArePrintable names.now (live_queries (R.value rows.now).rows) →
         PrintsFor
+        (section header.now
         (record {
           form = Queries;
           names = names.now;
           problem = problem;
           facts = facts;
           budget = budget;
-        })
+        }))
         (change_of (K.taken out.old) (K.taken out.new) (K.faults out.old) (K.faults out.new))
         result }
     ensures later { K.faults out.old ≤ K.faults out.new }
 {
-    written(write_finished(alloc, out, names, rows), Outcome::Finished)
+    written(
+        write_finished(alloc, out, header, names, rows),
+        Outcome::Finished,
+    )
 }
 
-/// Prints the queries of an exact union, of the live rows, and its answers.
+/// Prints the queries of an exact union, of the live rows, and its answers, behind the header.
 fn print_answers<K: Sink, R: Rows>(
     alloc: Global,
+    header: &[u8],
     names: &Names,
     rows: &R,
     answers: &Answered,
@@ -77,26 +89,28 @@ fn print_answers<K: Sink, R: Rows>(
         AreChaseAnswers names.now problem facts answers.now.tuples →
         ArePrintableTuples names.now answers.now.tuples →
         PrintsFor
+        (section header.now
         (record {
           form = Answers;
           names = names.now;
           problem = problem;
           facts = facts;
           budget = budget;
-        })
+        }))
         (change_of (K.taken out.old) (K.taken out.new) (K.faults out.old) (K.faults out.new))
         result }
     ensures later { K.faults out.old ≤ K.faults out.new }
 {
     written(
-        write_answered(alloc, out, names, rows, answers),
+        write_answered(alloc, out, header, names, rows, answers),
         Outcome::Finished,
     )
 }
 
-/// Prints how many queries and atoms an exact union has, and how many answers.
+/// Prints how many queries and atoms an exact union has, and how many answers, behind the header.
 fn print_counts<K: Sink, R: Rows>(
     alloc: Global,
+    header: &[u8],
     names: &Names,
     rows: &R,
     answers: &Answered,
@@ -107,13 +121,14 @@ fn print_counts<K: Sink, R: Rows>(
         ArePrintable names.now (live_queries (R.value rows.now).rows) →
         AreChaseAnswers names.now problem facts answers.now.tuples →
         PrintsFor
+        (section header.now
         (record {
           form = Counts;
           names = names.now;
           problem = problem;
           facts = facts;
           budget = budget;
-        })
+        }))
         (change_of (K.taken out.old) (K.taken out.new) (K.faults out.old) (K.faults out.new))
         result }
     ensures later { K.faults out.old ≤ K.faults out.new }
@@ -123,12 +138,13 @@ fn print_counts<K: Sink, R: Rows>(
         atoms: atom_count(rows),
         answers: answers.len() as u64,
     };
-    written(write_text(alloc, out, &text), Outcome::Finished)
+    written(write_headed(alloc, out, header, &text), Outcome::Finished)
 }
 
-/// Prints an exact union, of the live rows, in this form, with its answers where the form has them.
+/// Prints an exact union, of the live rows, in this form, with its answers where the form has them, behind the header.
 fn print_finished<K: Sink, R: Rows>(
     alloc: Global,
+    header: &[u8],
     names: &Names,
     rows: &R,
     answers: &Answered,
@@ -143,38 +159,46 @@ fn print_finished<K: Sink, R: Rows>(
         AreChaseAnswers names.now problem facts answers.now.tuples
         × ArePrintableTuples names.now answers.now.tuples) →
         PrintsFor
+        (section header.now
         (record {
           form = form;
           names = names.now;
           problem = problem;
           facts = facts;
           budget = budget;
-        })
+        }))
         (change_of (K.taken out.old) (K.taken out.new) (K.faults out.old) (K.faults out.new))
         result }
     ensures later { K.faults out.old ≤ K.faults out.new }
 {
     match form {
-        Form::Queries => print_queries(alloc, names, rows, out),
-        Form::Answers => print_answers(alloc, names, rows, answers, out),
-        Form::Counts => print_counts(alloc, names, rows, answers, out),
+        Form::Queries => print_queries(alloc, header, names, rows, out),
+        Form::Answers => print_answers(alloc, header, names, rows, answers, out),
+        Form::Counts => print_counts(alloc, header, names, rows, answers, out),
     }
 }
 
-/// Prints a cut store.
-fn print_cut<K: Sink>(alloc: Global, names: &Names, store: &Store, out: &mut K) -> Outcome
+/// Prints a cut store behind the header.
+fn print_cut<K: Sink>(
+    alloc: Global,
+    header: &[u8],
+    names: &Names,
+    store: &Store,
+    out: &mut K,
+) -> Outcome
     requires lawful { IsLawfulByLevels store.now }
     requires cut { IsCut store.now }
     requires held { IsHeldProblem (length names.now) store.now.problem }
     ensures prints { (form : FormValue) (facts : List AtomValue) →
         PrintsFor
+        (section header.now
         (record {
           form = form;
           names = names.now;
           problem = store.now.problem;
           facts = facts;
           budget = store.now.budget;
-        })
+        }))
         (change_of (K.taken out.old) (K.taken out.new) (K.faults out.old) (K.faults out.new))
         result }
     ensures later { K.faults out.old ≤ K.faults out.new }
@@ -182,16 +206,23 @@ fn print_cut<K: Sink>(alloc: Global, names: &Names, store: &Store, out: &mut K) 
     cut_listing();
     enough_budget();
     let text = CutText { names, rows: store };
-    written(write_text(alloc, out, &text), Outcome::Cut)
+    written(write_headed(alloc, out, header, &text), Outcome::Cut)
 }
 
-/// Prints what was solved of what is asked.
-fn print_section<K: Sink>(alloc: Global, asked: &Asked, solved: &Solved<'_>, out: &mut K) -> Outcome
-    requires within { IsWithinLimits asked.now }
-    requires solved { IsSolved asked.now solved.now }
+/// Prints what was solved of a problem behind the header.
+pub fn print_section<K: Sink>(
+    alloc: Global,
+    header: &[u8],
+    shared: &Shared,
+    solved: &Solved<'_>,
+    out: &mut K,
+) -> Outcome
+    requires within { IsWithinLimits shared.now }
+    requires held { IsHeldProblem (length shared.now.names) solved.now.store.problem }
+    requires solved { IsSolved shared.now solved.now.store.problem solved.now }
     ensures prints { (facts : List AtomValue) →
-        IsAbout asked.now facts →
-        PrintsFor (question_in asked.now facts)
+        IsAbout shared.now facts →
+        PrintsFor (section header.now (question_in shared.now solved.now.store.problem facts))
         (change_of (K.taken out.old) (K.taken out.new) (K.faults out.old) (K.faults out.new))
         result }
     ensures later { K.faults out.old ≤ K.faults out.new }
@@ -199,31 +230,17 @@ fn print_section<K: Sink>(alloc: Global, asked: &Asked, solved: &Solved<'_>, out
     answers_are_chase_answers();
     let store = &solved.store;
     if !store.is_finished() {
-        return print_cut(alloc, &asked.names, store, out);
+        return print_cut(alloc, header, &shared.names, store, out);
     }
     // A length tells that the answers are few enough to be counted.
     let _ = solved.answers.len();
-    print_finished(alloc, &asked.names, store, &solved.answers, asked.form, out)
-}
-
-/// Prints what is asked, once it was solved.
-pub fn print_parts<K: Sink>(
-    alloc: Global,
-    asked: &Asked,
-    solved: Result<Solved<'_>, NoMemory>,
-    out: &mut K,
-) -> Outcome
-    requires within { IsWithinLimits asked.now }
-    requires solved { IfOk solved (IsSolved asked.now) }
-    ensures prints { (facts : List AtomValue) →
-        IsAbout asked.now facts →
-        PrintsFor (question_in asked.now facts)
-        (change_of (K.taken out.old) (K.taken out.new) (K.faults out.old) (K.faults out.new))
-        result }
-    ensures later { K.faults out.old ≤ K.faults out.new }
-{
-    match solved {
-        Ok(solved) => print_section(alloc, asked, &solved, out),
-        Err(NoMemory) => Outcome::NoMemory,
-    }
+    print_finished(
+        alloc,
+        header,
+        &shared.names,
+        store,
+        &solved.answers,
+        shared.form,
+        out,
+    )
 }

@@ -3,11 +3,11 @@ ghost use Rattle.std.specs.Prelude.{◌≡◌, IfOk, MatchOption};
 ghost use Rattle.ucq_antichain.specs.Rows.{live_queries};
 ghost use Rattle.ucq_store.specs.Store.{IsFinished};
 ghost use Rattle.ucq_run.specs.declared.form.Form.TheVariants.{Queries};
-ghost use Rattle.ucq_run.specs.inner.Asked.{IsWithinLimits};
+ghost use Rattle.ucq_run.specs.inner.Request.{IsWithinLimits};
 ghost use Rattle.ucq_run.specs.inner.Solved.{IsSolved};
 
-use crate::asked::Asked;
 use crate::form::Form;
+use crate::request::Shared;
 use std::alloc::Global;
 use std::sync::Wait;
 use std::thread::Threads;
@@ -16,7 +16,7 @@ use ucq_hom::HomSpace;
 use ucq_outside::Gate;
 use ucq_pool::{alone, rounds};
 use ucq_store::Store;
-use ucq_terms::{NoMemory, Union};
+use ucq_terms::{NoMemory, Problem, Union};
 
 /// What came of the rewriting: the store, finished or cut, and the answers of a finished one's union, where the form has them.
 #[derive(Drop)]
@@ -37,16 +37,20 @@ fn answered_union(alloc: Global, form: Form, store: &Store) -> Result<Option<Uni
     Ok(Some(store.union(alloc)?))
 }
 
-/// Rewrites the query that is asked with its rules on one thread, and finds the answers.
-pub fn solve_alone<'p>(alloc: Global, asked: &'p Asked) -> Result<Solved<'p>, NoMemory>
-    requires { IsWithinLimits asked.now }
-    ensures { IfOk result (λ solved. IsSolved asked.entry.now solved) }
+/// Rewrites the query of a problem with its rules on one thread, and finds the answers. The only error is want of memory.
+pub fn solve_alone<'p>(
+    alloc: Global,
+    shared: &'p Shared,
+    problem: &'p Problem,
+) -> Result<Solved<'p>, NoMemory>
+    requires { IsWithinLimits shared.now }
+    ensures { IfOk result (λ solved. IsSolved shared.entry.now problem.entry.now solved) }
 {
     let mut space = HomSpace::new(alloc)?;
-    let store = alone(alloc, &mut space, &asked.problem, asked.budget)?;
-    let answers = match answered_union(alloc, asked.form, &store)? {
-        Some(union) => answers_with_texts(alloc, &union, &asked.names, &asked.facts)?,
-        None => Answers::none(alloc, &asked.names),
+    let store = alone(alloc, &mut space, problem, shared.budget)?;
+    let answers = match answered_union(alloc, shared.form, &store)? {
+        Some(union) => answers_with_texts(alloc, &union, &shared.names, &shared.facts)?,
+        None => Answers::none(alloc, &shared.names),
     };
     Ok(Solved { store, answers })
 }
@@ -56,22 +60,25 @@ pub fn solve_alone<'p>(alloc: Global, asked: &'p Asked) -> Result<Solved<'p>, No
 pub fn solve_by_crew<'p, G: Gate + Sync, R: Threads + Wait + Sync>(
     rt: &R,
     alloc: Global,
-    asked: &'p Asked,
+    shared: &'p Shared,
+    problem: &'p Problem,
     gate: &G,
 ) -> Result<Solved<'p>, NoMemory>
-    requires { IsWithinLimits asked.now }
-    ensures { IfOk result (λ solved. IsSolved asked.entry.now solved) }
+    requires { IsWithinLimits shared.now }
+    ensures { IfOk result (λ solved. IsSolved shared.entry.now problem.entry.now solved) }
 {
-    if asked.workers == 1 {
-        return solve_alone(alloc, asked);
+    if shared.workers == 1 {
+        return solve_alone(alloc, shared, problem);
     }
-    let store = rounds(rt, alloc, &asked.problem, asked.budget, asked.workers, gate)?;
-    let answers = match answered_union(alloc, asked.form, &store)? {
+    let (budget, workers) = (shared.budget, shared.workers);
+    let store = rounds(rt, alloc, problem, budget, workers, gate)?;
+    let answers = match answered_union(alloc, shared.form, &store)? {
         Some(union) => {
-            let threads = asked.workers as usize;
-            answers_with_texts_split(rt, alloc, threads, &union, &asked.names, &asked.facts)?
+            let (names, facts) = (&shared.names, &shared.facts);
+            let threads = workers as usize;
+            answers_with_texts_split(rt, alloc, threads, &union, names, facts)?
         }
-        None => Answers::none(alloc, &asked.names),
+        None => Answers::none(alloc, &shared.names),
     };
     Ok(Solved { store, answers })
 }

@@ -1,5 +1,5 @@
 //! The writing of whole lines.
-ghost use Rattle.std.specs.Prelude.{◌≡◌, ◌≤◌, ℕ, List, IfErr, IfOk};
+ghost use Rattle.std.specs.Prelude.{◌≡◌, ◌≤◌, ◌++◌, ℕ, List, IfErr, IfOk};
 ghost use Rattle.ucq_outside.specs.Causes.{Rose};
 ghost use Rattle.ucq_outside.specs.Taken.{change_of};
 ghost use Rattle.ucq_print.specs.Texts.{lines_text};
@@ -34,6 +34,19 @@ pub fn write_line<K: Sink>(sink: &mut K, line: &[u8]) -> Result<(), Failed>
     Ok(())
 }
 
+/// Writes these bytes.
+pub fn write_bytes<K: Sink>(sink: &mut K, bytes: &[u8]) -> Result<(), Unwritten>
+    ensures written { IsWritten
+        (change_of (K.taken sink.old) (K.taken sink.new) (K.faults sink.old) (K.faults sink.new))
+        bytes.now result }
+    ensures later { K.faults sink.old ≤ K.faults sink.new }
+{
+    match write_line(sink, bytes) {
+        Ok(()) => Ok(()),
+        Err(Failed) => Err(Unwritten::Failed),
+    }
+}
+
 /// Writes a line that was made.
 pub fn write_made<K: Sink>(sink: &mut K, line: Result<Vec<u8>, NoMemory>) -> Result<(), Unwritten>
     ensures written { (text : List ℕ) →
@@ -47,10 +60,23 @@ pub fn write_made<K: Sink>(sink: &mut K, line: Result<Vec<u8>, NoMemory>) -> Res
         Ok(line) => line,
         Err(NoMemory) => return Err(Unwritten::Memory),
     };
-    match write_line(sink, line.as_slice()) {
-        Ok(()) => Ok(()),
-        Err(Failed) => Err(Unwritten::Failed),
-    }
+    write_bytes(sink, line.as_slice())
+}
+
+/// Writes the header, and then the lines of a text.
+pub fn write_headed<K: Sink, T: Text>(
+    alloc: Global,
+    sink: &mut K,
+    header: &[u8],
+    text: &T,
+) -> Result<(), Unwritten>
+    ensures written { IsWritten
+        (change_of (K.taken sink.old) (K.taken sink.new) (K.faults sink.old) (K.faults sink.new))
+        (header.now ++ lines_text (T.lines text.now)) result }
+    ensures later { K.faults sink.old ≤ K.faults sink.new }
+{
+    write_bytes(sink, header)?;
+    write_text(alloc, sink, text)
 }
 
 /// Makes and writes the lines of a text, one after the other.

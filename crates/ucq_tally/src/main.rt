@@ -2,6 +2,9 @@
 //! rewrites the input on one thread, and prints how many rows there are and how many rewritings were tried.
 #![tactic(auto)]
 
+ghost use Rattle.std.specs.Prelude.{◌<◌, ◌≤◌};
+ghost use Rattle.ucq_terms.specs.declared.TheConstants.{ROWS};
+
 mod counting;
 mod faults;
 mod reading;
@@ -31,16 +34,29 @@ fn refused_words(error: &io::Error) -> Fault {
     }
 }
 
-/// Prints the tally of the words.
-fn answer(rt: &HostRuntime) -> Result<(), Fault> {
-    let words = words_of(rt).map_err(|error| refused_words(&error))?;
-    let settings = settings(rt.alloc(), words.as_slice())?;
-    let Input { rules, query, .. } = input_of(rt, &settings.job)?;
-    let problem = Problem::new(rules, query);
-    let tally = tally_of(rt.alloc(), &problem, settings.budget)?;
+/// Prints the tally of a problem.
+fn print_tally(rt: &HostRuntime, problem: &Problem, budget: u32) -> Result<(), Fault>
+    requires some { 0 < budget }
+    requires small { budget ≤ ROWS }
+{
+    let tally = tally_of(rt.alloc(), problem, budget)?;
     println!(rt; "% rows {}\n% rewritings {}", tally.rows, tally.rewritings).map_err(
         |_| Fault::Unwritten,
     )
+}
+
+/// Prints the tally of each query that the words ask for, in order.
+fn answer(rt: &HostRuntime) -> Result<(), Fault> {
+    let words = words_of(rt).map_err(|error| refused_words(&error))?;
+    let settings = settings(rt.alloc(), words.as_slice())?;
+    let Input { rules, queries, .. } = input_of(rt, &settings.job)?;
+    let mut rules = rules;
+    for asked in queries {
+        let problem = Problem::new(rules, asked.query);
+        print_tally(rt, &problem, settings.budget)?;
+        rules = problem.into_parts().0;
+    }
+    Ok(())
 }
 
 fn main(rt: HostRuntime) -> ExitCode {

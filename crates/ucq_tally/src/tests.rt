@@ -21,9 +21,12 @@ fn read_one(alloc: Global, text: &[u8]) -> Result<Input, ReadFault>
 fn problem_of(rt: &impl Abort, alloc: Global, text: &str) -> Result<Problem, Fail> {
     assert!(rt; text.len() <= 1_000);
     match read_one(alloc, text.as_bytes()) {
-        Ok(Input { rules, query, .. }) => {
+        Ok(Input { rules, queries, .. }) => {
             assert!(rt; rules.len() <= 4_096);
-            Ok(Problem::new(rules, query))
+            match queries.into_iter().next() {
+                Some(asked) => Ok(Problem::new(rules, asked.query)),
+                None => panic!(rt; "no query"),
+            }
         }
         Err(_) => panic!(rt; "refused"),
     }

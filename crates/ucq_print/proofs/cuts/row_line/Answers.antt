@@ -1,9 +1,7 @@
-use Rattle.std.proofs.Common.{◌≡◌, ◌∙◌, ◌++◌, List, ℕ, sym, ap, true, false, arith}
-use Rattle.std.proofs.lemmas.Grind.{common_steps}
+use Rattle.std.proofs.Common.{◌≡◌, ◌∙◌, ◌++◌, List, ℕ, sym, ap, true, false}
 use Rattle.std.proofs.lemmas.Result.{IfOk-weaker}
 use Rattle.ucq_antichain.specs.Rows.{row_at}
-use Rattle.ucq_terms.specs.Syntax.{Query}
-use Rattle.ucq_print.specs.Texts.{life_text, query_line, row_line}
+use Rattle.ucq_print.specs.Texts.{life_text, query_line}
 use Rattle.ucq_print.proofs.cuts.row_line.Goals as goal
 use Rattle.ucq_print.proofs.cuts.row_line.Goals.{then-is_live_at, else-is_live_at}
 

@@ -1,4 +1,4 @@
-use Rattle.std.proofs.Common.{◌<◌, ◌+◌, ◌≡◌, ◌∷◌, ◌∙◌, [], length, ap, sym, arith}
+use Rattle.std.proofs.Common.{◌<◌, ◌∷◌, ◌∙◌, [], length, ap, sym, arith}
 use Rattle.std.proofs.lemmas.List.{length-append}
 use Rattle.ucq_antichain.specs.Rows.{live_queries, query_at}
 use Rattle.ucq_store.proofs.Live.{dead_more, live_more}

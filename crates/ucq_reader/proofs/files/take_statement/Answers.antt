@@ -12,4 +12,4 @@ pub add-requires-clause-accepted : goal.add-requires-clause-accepted
 add-requires-clause-accepted c = accepted c.args.place.file c.args.place.number (starts c.args.tokens.now) (declared_view c.args.text.now c.args.declarations.now) (statement_view c.args.text.now c.args.form.now) (length-map c.args.tokens.now (λ (t : Token). t.start) ∙ sym (spelled_length c.args.text.now c.args.tokens.now c.args.form.now c.requires.spelled)) (sym c.statement_fault.ensures ∙ c.in_default.is)
 
 pub returns-clause-taken : goal.returns-clause-taken
-returns-clause-taken c = on_ok_weaker c.add.result (λ h all. h all (starts c.args.tokens.now)) c.add.ensures.gathered
+returns-clause-taken c = on_ok_weaker c.add.result (λ h all. h all c.args.place.file c.args.place.number (starts c.args.tokens.now)) c.add.ensures.gathered

@@ -64,6 +64,15 @@ judge-refusal-requires-clause-unknowns c = λ e.
     let count = tokens_count c.args.text.now ts c.requires.spells in
     omega (arith, t.unknowns, w, count, c.requires.unknowns, length-drop c.loop-place.place ts, length-take (c.loop-place.place + c.in_ok-next.next.count - c.loop-place.place) (drop c.loop-place.place ts))
 
+pub judge-refusal-requires-clause-asked : goal.judge-refusal-requires-clause-asked
+judge-refusal-requires-clause-asked c = λ e.
+    let inv = c.loop-place.invariant in
+    let ts = c.args.tokens.now in
+    let t = taken_in c.args.file c.args.text.now ts c.loop-place.place c.loop-place.number inv.before c.loop-place.declarations.items c.loop-place.refusal c.args.gathered.now c.loop-place.gathered inv.judged e in
+    let w = within c.args.file c.args.text.now ts c.loop-place.place c.loop-place.number c.in_ok-next.next.form c.in_ok-next.next.count inv.before inv.read c.in_ok-next.ensures.found in
+    let count = tokens_count c.args.text.now ts c.requires.spells in
+    omega (arith, t.asked, w, count, c.requires.asked, length-drop c.loop-place.place ts, length-take (c.loop-place.place + c.in_ok-next.next.count - c.loop-place.place) (drop c.loop-place.place ts))
+
 pub loop-place-preserved : goal.loop-place-preserved
 loop-place-preserved c =
     let inv = c.loop-place.invariant in

@@ -16,5 +16,5 @@ returns-clause-prints g c = λ problem facts budget exact printable chased.
     ap (λ (n : ℕ). summary_text n c.atom_count.result c.len.result) queries
     ∙ ap (λ (n : ℕ). summary_text (length union) n c.len.result) atoms
     ∙ ap (λ (n : ℕ). summary_text (length union) (atom_count union) n) answers in
-    prints_finished (record { form = Counts; names = c.args.names.now; problem = problem; facts = facts; budget = budget }) _ union
-    (summary_text c.from.result c.atom_count.result c.len.result) c.write_text.result c.written.result exact printable (c.atom_count.ensures.once, (tuples, chased, same)) c.write_text.ensures.written c.written.ensures
+    prints_finished c.args.header.now (record { form = Counts; names = c.args.names.now; problem = problem; facts = facts; budget = budget }) _ union
+    (summary_text c.from.result c.atom_count.result c.len.result) c.write_headed.result c.written.result exact printable (c.atom_count.ensures.once, (tuples, chased, same)) c.write_headed.ensures.written c.written.ensures

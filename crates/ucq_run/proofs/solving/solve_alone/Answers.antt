@@ -11,15 +11,15 @@ use Rattle.ucq_run.proofs.solving.solve_alone.Goals as goal
 
 pub returns : goal.returns
 returns c =
-    let a = c.args.asked.now in
+    let a = c.args.shared.now in
     let s = c.in_ok-store.store in
     let e = c.in_ok-store.ensures in
     let Matches : Option (List Query) → Type 0 = λ found. MatchOption found (IsFinished s → a.form ≡ Queries) (λ union. union ≡ live_queries s.rows) in
     elim c.match-branch-4.branch [
       | in-Some+in_ok-answers-in-Some w ↦
           let told = w.in_ok-answers-in-Some.ensures in
-          solved_with_answers a s _ w.in-Some.union e.done e.problem.0 e.problem.1 (subst Matches w.in-Some.is c.in_ok-union.ensures) (ap (λ (v : AnswersValue). v.names) w.answers-is ∙ told.names)
+          solved_with_answers a c.args.problem.now s _ w.in-Some.union e.done e.problem.0 e.problem.1 (subst Matches w.in-Some.is c.in_ok-union.ensures) (ap (λ (v : AnswersValue). v.names) w.answers-is ∙ told.names)
           (subst (λ (v : AnswersValue). AreAnswers a.names w.in-Some.union a.facts v.tuples) (sym w.answers-is) told.answers)
       | in-None w ↦
-          solved_without_answers a s _ e.done e.problem.0 e.problem.1 (subst Matches w.in-None.is c.in_ok-union.ensures) (ap (λ (v : AnswersValue). v.names) (w.answers-is ∙ w.none-answers.ensures))
+          solved_without_answers a c.args.problem.now s _ e.done e.problem.0 e.problem.1 (subst Matches w.in-None.is c.in_ok-union.ensures) (ap (λ (v : AnswersValue). v.names) (w.answers-is ∙ w.none-answers.ensures))
     ]

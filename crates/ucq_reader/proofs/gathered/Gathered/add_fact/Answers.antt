@@ -24,6 +24,6 @@ returns-clause-added c =
       rules = refl;
       facts = built.facts;
       unknowns = ap (λ (k : ℕ). c.self.inside.unknowns + k) (c.len.ensures.len ∙ ap length built.variables);
-      query = refl;
-      second = refl;
+      queries = refl;
+      asked = refl;
     })

@@ -14,6 +14,6 @@ returns-clause-gathered c = record {
     below = λ i x s. absurd (Contains-empty (variable x) s);
     facts = c.new-3.ensures.items;
   };
-  query = refl;
-  second = refl;
+  queries = rw c.new-4.ensures.items tt;
+  asked = refl;
 }

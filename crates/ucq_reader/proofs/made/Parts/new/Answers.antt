@@ -1,4 +1,4 @@
--- No statements have no names, rules or facts.
+-- No statements have no names, rules, queries or facts.
 use Rattle.std.proofs.Common.{[], refl, ap, arith, length}
 use Rattle.ucq_terms.proofs.Lists.{Contains-empty}
 use Rattle.ucq_reader.specs.Meaning.{variable}
@@ -15,18 +15,18 @@ returns c = record {
         unknown = λ i x. 0;
         apart = λ i j x y s t e. absurd (Contains-empty (variable x) s);
         below = λ i x s. absurd (Contains-empty (variable x) s);
-        facts = c.new-3.ensures.items;
+        facts = c.new-4.ensures.items;
       };
-      query = refl;
-      second = refl;
+      queries = rw c.new-3.ensures.items tt;
+      asked = ap length c.new-3.ensures.items;
     };
     texts = refl;
     rules_are = refl;
     queries_are = refl;
     facts_are = refl;
   };
-  query = refl;
+  asked = ap length c.new-3.ensures.items;
   rules = ap length c.new-2.ensures.items;
-  facts = ap length c.new-3.ensures.items;
+  facts = ap length c.new-4.ensures.items;
   names = omega (arith, ap length c.in_ok-new.ensures);
 }

@@ -10,4 +10,4 @@ returns c =
     c.in_ok-pair.pair c.in_ok-class.class c.self.inside.facts.items c.push.new.self.items c.push-2.new.self.items c.as_slice.ensures (c.as_bytes.ensures.value ∙ c.in_ok-u.ensures)
     (c.as_bytes-2.ensures.value ∙ c.in_ok-v.ensures) (c.as_bytes-3.ensures.value ∙ c.in_ok-c.ensures) (c.as_bytes-4.ensures.value ∙ c.in_ok-v.ensures) c.in_ok-pair.ensures.names
     c.in_ok-pair.ensures.atom c.in_ok-class.ensures.names c.in_ok-class.ensures.atom c.in_ok-push.ensures.items c.in_ok-push-2.ensures.items in
-    rw (← c.self.view_is) (record { names = added.names; rules = refl; facts = added.facts; unknowns = refl; query = refl; second = refl })
+    rw (← c.self.view_is) (record { names = added.names; rules = refl; facts = added.facts; unknowns = refl; queries = refl; asked = refl })
