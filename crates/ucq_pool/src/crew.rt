@@ -1,5 +1,5 @@
 //! Rounds of workers, one for each level.
-ghost use Rattle.std.specs.Prelude.{◌≡◌, ◌+◌, ◌<◌, ◌≤◌, ◌⊎◌, IfOk, length, vec_len};
+ghost use Rattle.std.specs.Prelude.{◌≡◌, ◌+◌, ◌<◌, ◌≤◌, ◌⊎◌, ◌^◌, IfOk, IfSome, length, vec_len};
 ghost use Rattle.ucq_terms.specs.declared.TheConstants.{ROWS};
 ghost use Rattle.ucq_board.specs.Values.{IsSeatOf};
 ghost use Rattle.ucq_hom.specs.Space.{IsClear};
@@ -130,34 +130,32 @@ fn rounds_in<'p, R: Threads + Wait + Sync, G: Gate + Sync>(
     ensures problem { IfOk result (λ r. (r.0.problem ≡ problem.entry.now) × (r.0.budget ≡ budget)) }
     ensures enough { IfOk result (λ r. IsEnough problem.entry.now budget → IsFinished r.0) }
 {
-    let store = Store::new(alloc, space, problem, budget)?;
-    let indexed = IndexedProblem::new(alloc, problem)?;
-    explore_with(rt, alloc, space, &indexed, store, workers, gate)
+    let log = Log::new(alloc)?;
+    let mut crew = hire(alloc, workers, &log)?;
+    let store = rounds_by(rt, alloc, space, problem, budget, &mut crew, gate)?;
+    Ok((store, note_of(&crew)))
 }
 
-/// Hires so many workers, and lets them explore to the end.
-fn explore_with<'p, R: Threads + Wait + Sync, G: Gate + Sync>(
+/// Lets the crew rewrite the problem's query to the end.
+fn rounds_by<'p, 'l, R: Threads + Wait + Sync, G: Gate + Sync>(
     rt: &R,
     alloc: Global,
     space: &mut HomSpace,
-    problem: &IndexedProblem<'p>,
-    store: Store<'p>,
-    workers: u32,
+    problem: &'p Problem,
+    budget: u32,
+    crew: &mut Crew<'l>,
     gate: &G,
-) -> Result<(Store<'p>, Note), NoMemory>
-    requires problem { store.problem ≡ problem.now }
-    requires some { 0 < store.budget }
-    requires small { store.budget ≤ ROWS }
+) -> Result<Store<'p>, NoMemory>
+    requires some { 0 < budget }
+    requires small { budget ≤ ROWS }
     requires clear { IsClear space.old }
-    ensures done { IfOk result (λ r. IsFinished r.0 ⊎ IsCut r.0) }
-    ensures problem { IfOk result (λ r.
-        (r.0.problem ≡ problem.now) × (r.0.budget ≡ store.entry.budget)) }
-    ensures enough { IfOk result (λ r. IsEnough problem.now store.entry.budget → IsFinished r.0) }
+    ensures done { IfOk result (λ s. IsFinished s ⊎ IsCut s) }
+    ensures problem { IfOk result (λ s. (s.problem ≡ problem.entry.now) × (s.budget ≡ budget)) }
+    ensures enough { IfOk result (λ s. IsEnough problem.entry.now budget → IsFinished s) }
 {
-    let log = Log::new(alloc)?;
-    let mut crew = hire(alloc, workers, &log)?;
-    let store = explore_levels(rt, alloc, space, problem, store, &mut crew, gate)?;
-    Ok((store, note_of(&crew)))
+    let indexed = IndexedProblem::new(alloc, problem)?;
+    let store = Store::new(alloc, space, problem, budget)?;
+    explore_levels(rt, alloc, space, &indexed, store, crew, gate)
 }
 
 /// Lets the crew explore level by level, until no row is left to explore or the store is cut.
@@ -303,28 +301,67 @@ fn round_at<'p, 'l, T: Task + Send + Sync, R: Threads + Wait + Sync, G: Gate + S
     ensures problem { IfOk result (λ r. r.store.problem ≡ T.problem) }
     ensures budget { IfOk result (λ r. r.store.budget ≡ T.budget) }
 {
-    let mut first = first;
-    let jobs = seat_team::<T>(alloc, &board, &mut first, &mut crew.workers)?;
     let lock: Mutex<TaskStore<'p, T>> = Mutex::new(TaskStore::new(store));
+    let is_wanting = team_at(rt, alloc, problem, &lock, claims, crew, gate, board, first)?;
+    let store = lock.into_inner().into_store();
+    Ok(Rested { store, is_wanting })
+}
+
+/// Lets the crew explore the claimed rows of the store behind the lock, at the board. Answers whether a worker wanted memory.
+fn team_at<'p, 'l, T: Task + Send + Sync, R: Threads + Wait + Sync, G: Gate + Sync>(
+    rt: &R,
+    alloc: Global,
+    problem: &IndexedProblem<'p>,
+    lock: &Mutex<TaskStore<'p, T>>,
+    claims: &[Claim],
+    crew: &mut Crew<'l>,
+    gate: &G,
+    board: Board,
+    first: Seat,
+) -> Result<bool, NoMemory>
+    requires of_task { problem.now ≡ T.problem }
+    requires board { board ≡ T.board }
+    requires rows { board.rows ≡ length claims.now }
+    requires seat { IsSeatOf board first }
+    requires spare { first.view.spare + 1 ≡ board.seats }
+{
+    let mut first = first;
     let round = Round {
         problem,
-        store: &lock,
+        store: lock,
         claims,
         board: &board,
         gate,
     };
-    let ended = work_all(rt, alloc, &round, jobs);
-    let store = lock.into_inner().into_store();
-    let Ok(jobs) = ended else {
-        return Ok(Rested {
-            store,
-            is_wanting: true,
-        });
+    match work_seated(rt, alloc, &round, &mut first, &mut crew.workers)? {
+        Some(is_wanting) => {
+            let drawn = board.close(first).drawn();
+            crew.drawn = crew.drawn.saturating_add(u64::from(drawn));
+            Ok(is_wanting)
+        }
+        None => Ok(true),
+    }
+}
+
+/// Seats as many workers at the round's board as its first seat has to spare, lets them explore what they draw, and joins
+/// their seats. Answers whether one of them wanted memory, or nothing where there was none to begin, and the seats are gone.
+fn work_seated<'r, 'p, 'l, T: Task + Send + Sync, R: Threads + Wait + Sync, G: Gate + Sync>(
+    rt: &R,
+    alloc: Global,
+    round: &Round<'r, 'p, T, G>,
+    first: &mut Seat,
+    workers: &mut Vec<Worker<'l>>,
+) -> Result<Option<bool>, NoMemory>
+    requires seat { IsSeatOf round.now.board.now first.old }
+    ensures seat { IsSeatOf round.now.board.now first.new }
+    ensures spare { IfOk result (λ ended.
+        IfSome ended (λ _. first.new.view.spare ≡ first.old.view.spare)) }
+{
+    let jobs = seat_team::<T>(alloc, round.board, first, workers)?;
+    let Ok(jobs) = work_all(rt, alloc, round, jobs) else {
+        return Ok(None);
     };
-    let is_wanting = rise_all(&board, &mut first, &mut crew.workers, jobs)?;
-    let drawn = board.close(first).drawn();
-    crew.drawn = crew.drawn.saturating_add(u64::from(drawn));
-    Ok(Rested { store, is_wanting })
+    Ok(Some(rise_all(round.board, first, workers, jobs)?))
 }
 
 /// Lets each worker explore what its seat draws, in a thread of its own where one can be made.
@@ -408,8 +445,7 @@ fn rise_all<'l, T: Task>(
     Ok(is_wanting)
 }
 
-/// Rows that are still claimed are opened, and the level is raised where none is open. Where memory was wanting the caller goes on alone, and where too many claims were
-/// given, which no run lives to see, the problem is solved anew, alone.
+/// Where too many claims were given, which no run lives to see, the problem is solved anew, alone. Else what is left is done.
 fn after_round<'p>(
     alloc: Global,
     space: &mut HomSpace,
@@ -423,24 +459,48 @@ fn after_round<'p>(
     ensures stage { IfOk result (IsStage problem.now rested.entry.store.budget) }
     ensures clear { IsClear space.new }
 {
-    let Rested {
-        mut store,
-        is_wanting,
-    } = rested;
+    let Rested { store, is_wanting } = rested;
     if store.claims() >= CLAIMS {
         let budget = store.budget();
         return Ok(Stage::Ended(alone(alloc, space, problem.problem(), budget)?));
     }
+    open_again(alloc, space, problem, store, is_wanting)
+}
+
+/// Opens the rows that are still claimed, and raises the level where none is open. Where memory was wanting the caller goes
+/// on alone.
+fn open_again<'p>(
+    alloc: Global,
+    space: &mut HomSpace,
+    problem: &IndexedProblem<'p>,
+    store: Store<'p>,
+    is_wanting: bool,
+) -> Result<Stage<'p>, NoMemory>
+    requires problem { store.problem ≡ problem.now }
+    requires small { store.budget ≤ ROWS }
+    requires claims { store.claims < 2 ^ 63 }
+    requires clear { IsClear space.old }
+    ensures stage { IfOk result (IsStage problem.now store.entry.budget) }
+    ensures clear { IsClear space.new }
+{
+    let mut store = store;
     store.reopen();
-    if store.cut().is_some() {
-        return Ok(Stage::Ended(store));
-    }
-    if is_wanting {
+    if is_wanting && store.cut().is_none() {
         return Ok(Stage::Ended(go_on(alloc, space, store, problem)?));
     }
+    Ok(stage_of(store))
+}
+
+/// Where a rewriting stands without claims: it ended, or there are rows to explore, of the next level where none is open.
+fn stage_of<'p>(mut store: Store<'p>) -> Stage<'p>
+    ensures { IsStage store.entry.problem store.entry.budget result }
+{
+    if store.cut().is_some() {
+        return Stage::Ended(store);
+    }
     if store.next_level() || !store.is_finished() {
-        Ok(Stage::Going(store))
+        Stage::Going(store)
     } else {
-        Ok(Stage::Ended(store))
+        Stage::Ended(store)
     }
 }

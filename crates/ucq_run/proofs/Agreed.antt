@@ -1,12 +1,10 @@
 -- Finished sections of runs over the same files print one union, up to renaming.
-use Rattle.std.proofs.Common.{◌≡◌, ◌≢◌, ◌∙◌, ◌⊎◌, ◌≤◌, ℕ, List, [], ◌∷◌, ◌++◌, length, map, All, Bool, true, false, inl, inr, refl, sym, ap, subst, append_assoc, arith}
-use Rattle.std.specs.Prelude.{Option, Some, IfSome, slice_get}
+use Rattle.std.proofs.Common.{◌≡◌, ◌∙◌, ◌⊎◌, ℕ, List, [], ◌∷◌, ◌++◌, length, map, All, Bool, true, false, inl, inr, refl, sym, ap, subst, append_assoc, arith}
+use Rattle.std.specs.Prelude.{Option, Some, IfSome}
 use Rattle.std.specs.List.{AllZip, enumerate_from}
 use Rattle.std.proofs.lemmas.List.Elements.{length_all_zip}
 use Rattle.std.proofs.lemmas.List.{append_cancel_left, append-nil}
 use Rattle.ucq_terms.specs.Syntax.{HasEachOnce, Query}
-use Rattle.ucq_terms.specs.Homomorphism.{IsEquivalent}
-use Rattle.ucq_terms.specs.Numbering.{numbered_query}
 use Rattle.ucq_terms.specs.Union.{IsExact}
 use Rattle.ucq_chase.proofs.Kept.{numbering_keeps_exact}
 use Rattle.ucq_chase.proofs.Unions.{exact_is_unique}
@@ -29,7 +27,7 @@ use Rattle.ucq_outside.specs.Taken.{SinkChange, TookAll}
 use Rattle.ucq_run.specs.Parts.{section, header_of, PartText, AreTextsOf, IsSectionText, join, NoneIsCut, parts_of}
 use Rattle.ucq_run.specs.Printed.{Prints}
 use Rattle.ucq_run.specs.Run.{HoldsFiles}
-use Rattle.ucq_run.specs.Laws.{AskForMade, BeginsWithAnswers, BeginsWithUnion, FinishedRunPrintsUnions, FinishedSectionsAgree, HasSection, IsFinishedRun, IsRunTaking, IsSectionOf, IsWholeRun, MadeRunsAgree, PrintedAnswersAreExact, PrintedUnionIsExact}
+use Rattle.ucq_run.specs.Laws.{AskForMade, BeginsWithAnswers, BeginsWithUnion, FinishedRunPrintsUnions, FinishedSectionsAgree, HasSection, IsFinishedRun, IsRunTaking, IsSectionOf, MadeRunsAgree, PrintedAnswersAreExact, PrintedUnionIsExact}
 use Rattle.ucq_run.proofs.Asking.{budget_within}
 use Rattle.ucq_run.proofs.InputLimits.{few_queries, few_rules}
 use Rattle.ucq_print.proofs.InputLabels.{input_labels}

@@ -2,7 +2,7 @@
 use Rattle.std.proofs.Common.{◌≡◌, ◌≢◌, ◌+◌, ◌++◌, ℕ, true, List, [], ◌∷◌, length, map, refl, sym, ap, ◌∙◌, subst, append_assoc, arith}
 use Rattle.std.proofs.lemmas.Bool.Decides.{nat_tests}
 use Rattle.std.specs.List.{enumerate_from}
-use Rattle.std.specs.Prelude.{◌↔◌, Option, Some, Result, Ok, Err, IfOk, IsTrue, nat_eq, slice_get}
+use Rattle.std.specs.Prelude.{◌↔◌, Some, Result, Ok, Err, IfOk, IsTrue, nat_eq, slice_get}
 use Rattle.std.proofs.lemmas.List.{append-nil, length-append, length-map}
 use Rattle.std.proofs.lemmas.List.FromFn.{length-enumerate_from}
 use Rattle.ucq_terms.specs.Syntax.{Atom, Rule, Problem}
@@ -12,9 +12,9 @@ use Rattle.ucq_run.specs.declared.outcome.Outcome.{Outcome}
 use Rattle.ucq_run.specs.declared.outcome.Outcome.TheVariants.{Finished, Cut, NoMemory, BadWords, ReadFault, TooLong, Refused, WriteFault}
 use Rattle.ucq_run.specs.declared.request.Shared.{Shared}
 use Rattle.ucq_run.specs.declared.solving.Solved.{Solved}
-use Rattle.ucq_run.specs.Parts.{header_of, section}
+use Rattle.ucq_run.specs.Parts.{section}
 use Rattle.ucq_run.specs.Printed.{PrintsFor}
-use Rattle.ucq_run.specs.inner.Request.{parts_for, problem_with, question_in, section_for}
+use Rattle.ucq_run.specs.inner.Request.{parts_for, question_in, section_for}
 use Rattle.ucq_run.specs.inner.Solved.{IsSolved}
 use Rattle.ucq_run.proofs.PartTexts.{IsUnfinished}
 
@@ -34,13 +34,10 @@ next_part s rules all facts done rest asked number place e =
     subst (λ (n : ℕ). slice_get (parts_for s rules all facts) n ≡ Some (section_for s rules all facts (n, asked))) (sym place)
     (here ∙ ap (λ (n : ℕ). Some (section_for s rules all facts (n, asked))) zero)
 
--- what is printed of a query under these rules, behind this header, is printed of its section
-pub prints_section : (s : Shared) (rules : List Rule) (all : List Asked) (facts : List Atom) (number : ℕ) (asked : Asked) (header : List ℕ) (now : List Rule) (out : SinkChange) (o : Outcome) →
-    header ≡ header_of all number asked → now ≡ rules →
-    PrintsFor (section header (question_in s (problem_with now asked.query) facts)) out o → PrintsFor (section_for s rules all facts (number, asked)) out o
-prints_section s rules all facts number asked header now out o e f h =
-    subst (λ (bytes : List ℕ). PrintsFor (section bytes (question_in s (problem_with rules asked.query) facts)) out o) e
-    (subst (λ (rs : List Rule). PrintsFor (section header (question_in s (problem_with rs asked.query) facts)) out o) f h)
+-- what is printed of a query under these rules is printed of its section
+pub prints_section : (s : Shared) (rules : List Rule) (all : List Asked) (facts : List Atom) (number : ℕ) (asked : Asked) (now : List Rule) (out : SinkChange) (o : Outcome) → now ≡ rules →
+    PrintsFor (section_for s now all facts (number, asked)) out o → PrintsFor (section_for s rules all facts (number, asked)) out o
+prints_section s rules all facts number asked now out o e h = subst (λ (rs : List Rule). PrintsFor (section_for s rs all facts (number, asked)) out o) e h
 
 -- and so of an equal problem
 pub prints_of : (header : List ℕ) (s : Shared) (facts : List Atom) (p q : Problem) (out : SinkChange) (o : Outcome) → p ≡ q →

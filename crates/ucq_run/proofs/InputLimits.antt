@@ -3,7 +3,7 @@ use Rattle.std.proofs.Common.{◌≡◌, ◌≤◌, ◌∙◌, ℕ, List, [], �
 use Rattle.std.proofs.lemmas.List.{length-map}
 use Rattle.std.proofs.lemmas.Slice.Zip.{AllZip-long}
 use Rattle.std.specs.List.{filter_map, flat_map}
-use Rattle.std.specs.Prelude.{Option, Some, None, Result, Ok, Err}
+use Rattle.std.specs.Prelude.{Option, None, Result, Ok}
 use Rattle.ucq_terms.proofs.Lists.{Contains-first}
 use Rattle.ucq_terms.specs.declared.TheConstants.{FACTS, QUERIES, RULES}
 use Rattle.ucq_reader.specs.declared.ReadFault.{ReadFault}

@@ -3,8 +3,8 @@ use Rattle.std.proofs.Common.{◌≡◌, ◌∙◌, ℕ, ◌<◌, ◌≤◌, ◌
 use Rattle.std.proofs.lemmas.List.{get_or_default, length-map}
 use Rattle.std.proofs.lemmas.List.Sums.{count_by-le-length, length-filter}
 use Rattle.std.specs.Option.{is_some}
-use Rattle.std.specs.Prelude.{◌⊎◌, Option, Some, None, IsSome, Result, Ok, Err}
-use Rattle.ucq_terms.specs.Syntax.{Atom, Problem, Query, Rule}
+use Rattle.std.specs.Prelude.{Option, Some, None, IsSome, Result, Ok, Err}
+use Rattle.ucq_terms.specs.Syntax.{Atom, Query, Rule}
 use Rattle.ucq_terms.specs.Rewriting.{IsOneStepWith, Member}
 use Rattle.ucq_terms.specs.Union.{IsExact}
 use Rattle.ucq_store.specs.declared.Cut.{Cut as StoreCut}

@@ -1,10 +1,9 @@
 -- What was solved, for the question that is asked.
 use Rattle.std.proofs.Common.{◌≡◌, ◌≢◌, ◌<◌, ◌^◌, ℕ, List, length, subst}
-use Rattle.std.specs.Prelude.{◌⊎◌}
 use Rattle.ucq_terms.specs.Syntax.{Atom, Problem, Query}
 use Rattle.ucq_terms.specs.Union.{IsExact}
 use Rattle.ucq_antichain.specs.Rows.{live_queries}
-use Rattle.ucq_store.specs.Store.{Store, IsCut, IsFinished}
+use Rattle.ucq_store.specs.Store.{Store, IsFinished}
 use Rattle.ucq_eval.specs.Answers.{AnswersValue, AreAnswers}
 use Rattle.ucq_eval.specs.Laws.{AnswersAreChaseAnswers}
 use Rattle.ucq_print.specs.Laws.{ArePrintable, ArePrintableTuples}
@@ -12,28 +11,21 @@ use Rattle.ucq_run.specs.declared.request.Shared.{Shared}
 use Rattle.ucq_run.specs.declared.form.Form.TheVariants.{Queries}
 use Rattle.ucq_run.specs.inner.Request.{IsAbout}
 use Rattle.ucq_run.specs.Finished.{AreChaseAnswers}
-use Rattle.ucq_run.specs.inner.Solved.{IsSolved}
+use Rattle.ucq_run.specs.inner.Solved.{HasAnswers}
 use Rattle.ucq_run.proofs.AnswerNames.{printed_answers}
 use Rattle.ucq_run.proofs.OverFacts.{answers_of_chase}
 
--- a store that is finished or cut, with the answers of its live queries
-pub solved_with_answers : (a : Shared) (p : Problem) (s : Store) (found : AnswersValue) (union : List Query) → IsFinished s ⊎ IsCut s → s.problem ≡ p → s.budget ≡ a.budget →
-    union ≡ live_queries s.rows → found.names ≡ a.names → AreAnswers a.names union a.facts found.tuples → IsSolved a p (record { store = s; answers = found })
-solved_with_answers a p s found union ended problem budget live names answers = record {
-  ended = ended;
-  problem = problem;
-  budget = budget;
+-- the answers of a store's live queries
+pub has_answers : (a : Shared) (s : Store) (found : AnswersValue) (union : List Query) → union ≡ live_queries s.rows → found.names ≡ a.names →
+    AreAnswers a.names union a.facts found.tuples → HasAnswers a s found
+has_answers a s found union live names answers = record {
   names = names;
   answers = λ finished asks. subst (λ (qs : List Query). AreAnswers a.names qs a.facts found.tuples) live answers;
 }
 
--- and one whose answers aren't asked for, or that is cut
-pub solved_without_answers : (a : Shared) (p : Problem) (s : Store) (found : AnswersValue) → IsFinished s ⊎ IsCut s → s.problem ≡ p → s.budget ≡ a.budget →
-    (IsFinished s → a.form ≡ Queries) → found.names ≡ a.names → IsSolved a p (record { store = s; answers = found })
-solved_without_answers a p s found ended problem budget none names = record {
-  ended = ended;
-  problem = problem;
-  budget = budget;
+-- and none, where they aren't asked for, or the store is cut
+pub has_none : (a : Shared) (s : Store) (found : AnswersValue) → (IsFinished s → a.form ≡ Queries) → found.names ≡ a.names → HasAnswers a s found
+has_none a s found none names = record {
   names = names;
   answers = λ finished asks. absurd (asks (none finished));
 }

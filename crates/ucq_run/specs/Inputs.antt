@@ -1,5 +1,5 @@
 -- What the words of a run ask for, and the input that it is asked of.
-use Rattle.std.specs.Prelude.{◌≡◌, ◌≤◌, ◌^◌, ℕ, Bool, true, false, List, length, Option, IfSome}
+use Rattle.std.specs.Prelude.{◌≡◌, ◌≤◌, ℕ, Bool, true, false, List, length, Option, IfSome}
 use Rattle.ucq_lexer.specs.declared.TheConstants.{BYTES}
 use Rattle.std.specs.List.{AllZip}
 use Rattle.ucq_terms.specs.Syntax.{Problem, Query}

@@ -1,5 +1,5 @@
 -- What a run is.
-use Rattle.std.specs.Prelude.{◌≡◌, ◌≢◌, ◌<◌, ◌≤◌, ◌^◌, ◌⊎◌, ◌↔◌, ℕ, List, Some, Result, Ok, Err, All}
+use Rattle.std.specs.Prelude.{◌≡◌, ◌≢◌, ◌<◌, ◌≤◌, ◌⊎◌, ◌↔◌, ℕ, List, Some, Result, Ok, Err, All}
 use Rattle.ucq_lexer.specs.declared.TheConstants.{BYTES}
 use Rattle.std.specs.Global.{Vec}
 use Rattle.std.specs.List.{AllZip}

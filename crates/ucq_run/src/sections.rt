@@ -1,13 +1,13 @@
 //! The sections of all queries, each solved and then printed.
-ghost use Rattle.std.specs.Prelude.{◌≡◌, ◌≤◌, ◌<◌, ◌↔◌, ◌^◌, List, IfOk, IsTrue, length, vec_len};
-ghost use Rattle.ucq_terms.specs.declared.TheConstants.{RULES};
+ghost use Rattle.std.specs.Prelude.{◌≡◌, ◌≤◌, ◌<◌, ◌↔◌, ◌^◌, All, List, IfOk, IsTrue, length, vec_len};
+ghost use Rattle.ucq_terms.specs.declared.TheConstants.{QUERIES, RULES};
 ghost use Rattle.ucq_terms.specs.Syntax.{Atom as AtomValue, Problem as ProblemValue};
 ghost use Rattle.ucq_chase.specs.Names.{IsHeldProblem};
 ghost use Rattle.ucq_outside.specs.Taken.{change_of};
 ghost use Rattle.ucq_reader.specs.declared.input.Asked.{Asked as AskedValue};
 ghost use Rattle.ucq_run.specs.Parts.{header_of, section};
 ghost use Rattle.ucq_run.specs.Printed.{PrintsFor, PrintsParts, ended};
-ghost use Rattle.ucq_run.specs.inner.Request.{AreWithinLimits, IsAbout, IsWithinLimits, parts_in, question_in};
+ghost use Rattle.ucq_run.specs.inner.Request.{AreWithinLimits, IsAbout, IsWithinLimits, parts_for, parts_in, problem_with, question_in, section_for};
 ghost use Rattle.ucq_run.specs.inner.Solved.{IsSolved};
 
 use crate::outcome::Outcome;
@@ -74,27 +74,30 @@ fn print_query_alone<K: Sink>(
     alloc: Global,
     shared: &Shared,
     rules: Vec<Rule>,
-    query: Query,
-    header: &[u8],
+    asked: Asked,
+    number: u32,
+    alone: bool,
     out: &mut K,
 ) -> (Outcome, Vec<Rule>)
     requires within { IsWithinLimits shared.now }
     requires rules { vec_len rules ≤ RULES }
-    requires held { IsHeldProblem (length shared.now.names)
-        (record { rules = rules.items; query = query }) }
-    ensures prints { (facts : List AtomValue) →
+    requires held { IsHeldProblem (length shared.now.names) (problem_with rules.items asked.query) }
+    ensures prints { (all : List AskedValue) (facts : List AtomValue) →
+        IsTrue alone ↔ (length all ≡ 1) →
         IsAbout shared.now facts →
-        PrintsFor
-        (section header.now
-        (question_in shared.now (record { rules = rules.items; query = query }) facts))
+        PrintsFor (section_for shared.now rules.items all facts (number, asked))
         (change_of (K.taken out.old) (K.taken out.new) (K.faults out.old) (K.faults out.new))
         result.0 }
     ensures rules { result.1.items ≡ rules.items }
     ensures later { K.faults out.old ≤ K.faults out.new }
 {
-    let problem = Problem::new(rules, query);
+    let header = match header(alloc, alone, number, &asked) {
+        Ok(header) => header,
+        Err(NoMemory) => return (Outcome::NoMemory, rules),
+    };
+    let problem = Problem::new(rules, asked.query);
     let solved = solve_alone(alloc, shared, &problem);
-    let outcome = print_solved(alloc, header, shared, solved, out);
+    let outcome = print_solved(alloc, header.as_slice(), shared, solved, out);
     (outcome, problem.into_parts().0)
 }
 
@@ -105,27 +108,30 @@ fn print_query_by_crew<G: Gate + Sync, R: Threads + Wait + Sync, K: Sink>(
     gate: &G,
     shared: &Shared,
     rules: Vec<Rule>,
-    query: Query,
-    header: &[u8],
+    asked: Asked,
+    number: u32,
+    alone: bool,
     out: &mut K,
 ) -> (Outcome, Vec<Rule>)
     requires within { IsWithinLimits shared.now }
     requires rules { vec_len rules ≤ RULES }
-    requires held { IsHeldProblem (length shared.now.names)
-        (record { rules = rules.items; query = query }) }
-    ensures prints { (facts : List AtomValue) →
+    requires held { IsHeldProblem (length shared.now.names) (problem_with rules.items asked.query) }
+    ensures prints { (all : List AskedValue) (facts : List AtomValue) →
+        IsTrue alone ↔ (length all ≡ 1) →
         IsAbout shared.now facts →
-        PrintsFor
-        (section header.now
-        (question_in shared.now (record { rules = rules.items; query = query }) facts))
+        PrintsFor (section_for shared.now rules.items all facts (number, asked))
         (change_of (K.taken out.old) (K.taken out.new) (K.faults out.old) (K.faults out.new))
         result.0 }
     ensures rules { result.1.items ≡ rules.items }
     ensures later { K.faults out.old ≤ K.faults out.new }
 {
-    let problem = Problem::new(rules, query);
+    let header = match header(alloc, alone, number, &asked) {
+        Ok(header) => header,
+        Err(NoMemory) => return (Outcome::NoMemory, rules),
+    };
+    let problem = Problem::new(rules, asked.query);
     let solved = solve_by_crew(rt, alloc, shared, &problem, gate);
-    let outcome = print_solved(alloc, header, shared, solved, out);
+    let outcome = print_solved(alloc, header.as_slice(), shared, solved, out);
     (outcome, problem.into_parts().0)
 }
 
@@ -144,17 +150,36 @@ pub fn print_alone<K: Sink>(alloc: Global, request: Request, out: &mut K) -> Out
         rules,
         queries,
     } = request;
+    print_all_alone(alloc, &shared, rules, queries, out)
+}
+
+/// Prints the sections of these queries under the rules.
+fn print_all_alone<K: Sink>(
+    alloc: Global,
+    shared: &Shared,
+    mut rules: Vec<Rule>,
+    queries: Vec<Asked>,
+    out: &mut K,
+) -> Outcome
+    requires within { IsWithinLimits shared.now }
+    requires rules { vec_len rules ≤ RULES }
+    requires queries { vec_len queries ≤ QUERIES }
+    requires held { All
+        (λ (asked : AskedValue). IsHeldProblem (length shared.now.names)
+        (problem_with rules.items asked.query))
+        queries.items }
+    ensures prints { (facts : List AtomValue) →
+        IsAbout shared.now facts →
+        PrintsParts (parts_for shared.now rules.items queries.items facts)
+        (change_of (K.taken out.old) (K.taken out.new) (K.faults out.old) (K.faults out.new))
+        result }
+    ensures later { K.faults out.old ≤ K.faults out.new }
+{
     let alone = queries.len() == 1;
-    let mut rules = rules;
     let mut number = 0;
     let mut cut = false;
     for asked in queries {
-        let header = match header(alloc, alone, number, &asked) {
-            Ok(header) => header,
-            Err(NoMemory) => return Outcome::NoMemory,
-        };
-        let (bytes, query) = (header.as_slice(), asked.query);
-        let (outcome, kept) = print_query_alone(alloc, &shared, rules, query, bytes, out);
+        let (outcome, kept) = print_query_alone(alloc, shared, rules, asked, number, alone, out);
         match outcome {
             Outcome::Finished => {}
             Outcome::Cut => cut = true,
@@ -187,18 +212,39 @@ pub fn print_by_crew<G: Gate + Sync, R: Threads + Wait + Sync, K: Sink>(
         rules,
         queries,
     } = request;
+    print_all_by_crew(rt, alloc, gate, &shared, rules, queries, out)
+}
+
+/// Prints the sections of these queries under the rules, where a crew solves.
+fn print_all_by_crew<G: Gate + Sync, R: Threads + Wait + Sync, K: Sink>(
+    rt: &R,
+    alloc: Global,
+    gate: &G,
+    shared: &Shared,
+    mut rules: Vec<Rule>,
+    queries: Vec<Asked>,
+    out: &mut K,
+) -> Outcome
+    requires within { IsWithinLimits shared.now }
+    requires rules { vec_len rules ≤ RULES }
+    requires queries { vec_len queries ≤ QUERIES }
+    requires held { All
+        (λ (asked : AskedValue). IsHeldProblem (length shared.now.names)
+        (problem_with rules.items asked.query))
+        queries.items }
+    ensures prints { (facts : List AtomValue) →
+        IsAbout shared.now facts →
+        PrintsParts (parts_for shared.now rules.items queries.items facts)
+        (change_of (K.taken out.old) (K.taken out.new) (K.faults out.old) (K.faults out.new))
+        result }
+    ensures later { K.faults out.old ≤ K.faults out.new }
+{
     let alone = queries.len() == 1;
-    let mut rules = rules;
     let mut number = 0;
     let mut cut = false;
     for asked in queries {
-        let header = match header(alloc, alone, number, &asked) {
-            Ok(header) => header,
-            Err(NoMemory) => return Outcome::NoMemory,
-        };
-        let (bytes, query) = (header.as_slice(), asked.query);
         let (outcome, kept) = print_query_by_crew(
-            rt, alloc, gate, &shared, rules, query, bytes, out,
+            rt, alloc, gate, shared, rules, asked, number, alone, out,
         );
         match outcome {
             Outcome::Finished => {}

@@ -1,10 +1,11 @@
 //! From what is asked to the store, with the answers of its union.
-ghost use Rattle.std.specs.Prelude.{◌≡◌, IfOk, MatchOption};
+ghost use Rattle.std.specs.Prelude.{◌≡◌, ◌<◌, ◌≤◌, ◌⊎◌, IfOk, MatchOption};
+ghost use Rattle.ucq_terms.specs.declared.TheConstants.{ROWS};
 ghost use Rattle.ucq_antichain.specs.Rows.{live_queries};
-ghost use Rattle.ucq_store.specs.Store.{IsFinished};
+ghost use Rattle.ucq_store.specs.Store.{IsCut, IsFinished};
 ghost use Rattle.ucq_run.specs.declared.form.Form.TheVariants.{Queries};
 ghost use Rattle.ucq_run.specs.inner.Request.{IsWithinLimits};
-ghost use Rattle.ucq_run.specs.inner.Solved.{IsSolved};
+ghost use Rattle.ucq_run.specs.inner.Solved.{HasAnswers, IsSolved};
 
 use crate::form::Form;
 use crate::request::Shared;
@@ -37,6 +38,36 @@ fn answered_union(alloc: Global, form: Form, store: &Store) -> Result<Option<Uni
     Ok(Some(store.union(alloc)?))
 }
 
+/// The answers over the facts of the union of a finished store, where the form has them.
+fn answers_of<'p>(alloc: Global, shared: &'p Shared, store: &Store) -> Result<Answers<'p>, NoMemory>
+    ensures { IfOk result (HasAnswers shared.entry.now store.now) }
+{
+    match answered_union(alloc, shared.form, store)? {
+        Some(union) => Ok(answers_with_texts(alloc, &union, &shared.names, &shared.facts)?),
+        None => Ok(Answers::none(alloc, &shared.names)),
+    }
+}
+
+/// The same by as many threads as there are workers.
+fn answers_by_threads<'p, R: Threads + Wait + Sync>(
+    rt: &R,
+    alloc: Global,
+    shared: &'p Shared,
+    store: &Store,
+) -> Result<Answers<'p>, NoMemory>
+    requires { IsWithinLimits shared.now }
+    ensures { IfOk result (HasAnswers shared.entry.now store.now) }
+{
+    match answered_union(alloc, shared.form, store)? {
+        Some(union) => {
+            let (names, facts) = (&shared.names, &shared.facts);
+            let threads = shared.workers as usize;
+            Ok(answers_with_texts_split(rt, alloc, threads, &union, names, facts)?)
+        }
+        None => Ok(Answers::none(alloc, &shared.names)),
+    }
+}
+
 /// Rewrites the query of a problem with its rules on one thread, and finds the answers. The only error is want of memory.
 pub fn solve_alone<'p>(
     alloc: Global,
@@ -46,13 +77,20 @@ pub fn solve_alone<'p>(
     requires { IsWithinLimits shared.now }
     ensures { IfOk result (λ solved. IsSolved shared.entry.now problem.entry.now solved) }
 {
-    let mut space = HomSpace::new(alloc)?;
-    let store = alone(alloc, &mut space, problem, shared.budget)?;
-    let answers = match answered_union(alloc, shared.form, &store)? {
-        Some(union) => answers_with_texts(alloc, &union, &shared.names, &shared.facts)?,
-        None => Answers::none(alloc, &shared.names),
-    };
+    let store = store_of(alloc, problem, shared.budget)?;
+    let answers = answers_of(alloc, shared, &store)?;
     Ok(Solved { store, answers })
+}
+
+/// The store of the problem, finished or cut, on one thread.
+fn store_of<'p>(alloc: Global, problem: &'p Problem, budget: u32) -> Result<Store<'p>, NoMemory>
+    requires some { 0 < budget }
+    requires small { budget ≤ ROWS }
+    ensures done { IfOk result (λ s. IsFinished s ⊎ IsCut s) }
+    ensures problem { IfOk result (λ s. (s.problem ≡ problem.now) × (s.budget ≡ budget)) }
+{
+    let mut space = HomSpace::new(alloc)?;
+    alone(alloc, &mut space, problem, budget)
 }
 
 /// The same by as many workers as are asked for, who pass the gate. One worker works alone, and then all is done on one
@@ -70,15 +108,7 @@ pub fn solve_by_crew<'p, G: Gate + Sync, R: Threads + Wait + Sync>(
     if shared.workers == 1 {
         return solve_alone(alloc, shared, problem);
     }
-    let (budget, workers) = (shared.budget, shared.workers);
-    let store = rounds(rt, alloc, problem, budget, workers, gate)?;
-    let answers = match answered_union(alloc, shared.form, &store)? {
-        Some(union) => {
-            let (names, facts) = (&shared.names, &shared.facts);
-            let threads = workers as usize;
-            answers_with_texts_split(rt, alloc, threads, &union, names, facts)?
-        }
-        None => Answers::none(alloc, &shared.names),
-    };
+    let store = rounds(rt, alloc, problem, shared.budget, shared.workers, gate)?;
+    let answers = answers_by_threads(rt, alloc, shared, &store)?;
     Ok(Solved { store, answers })
 }

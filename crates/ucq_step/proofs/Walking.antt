@@ -7,6 +7,7 @@ use Rattle.ucq_unify.specs.Pieces.{AreSinglePieces}
 use Rattle.ucq_join.specs.Names.{Named}
 use Rattle.ucq_join.specs.Walk.{ArePieces, IsJoinOf, Walk, GoesOn, IsLast}
 use Rattle.ucq_step.specs.inner.Building.{IsTold}
+use Rattle.ucq_step.specs.inner.Walked.{WalksIn}
 use Rattle.ucq_step.specs.Kept.{AreDifferent, HasAddedCore}
 use Rattle.ucq_step.specs.Steps.{IsRewrittenAt, AreCoresUpTo, AreSteps}
 use Rattle.ucq_step.proofs.Ranks.{left_of, left_of-next}
@@ -14,12 +15,6 @@ use Rattle.ucq_step.proofs.Stepped.{AreCoresUpTo-more, AreCoresUpTo-none, AreSte
 
 pub ArePieces-single : (q : Query) (rule : Rule) (pieces : List (List (ℕ × ℕ))) → AreSinglePieces q rule pieces → ArePieces q rule pieces
 ArePieces-single q rule pieces S = record { single = S.single; once = S.once }
-
--- the walk goes through the pieces of the query and the rule
-pub record WalksIn (w : Walk) (q : Query) (rule : Rule) (pieces : List (List (ℕ × ℕ))) : Type 0 where
-  pub same_query : w.query ≡ q
-  pub same_rule : w.rule ≡ rule
-  pub same_pieces : w.pieces ≡ pieces
 
 -- What holds of the one holds of the other.
 from_walk : (P : Query → Rule → List (List (ℕ × ℕ)) → Type 0) (w : Walk) (q : Query) (rule : Rule) (pieces : List (List (ℕ × ℕ))) → WalksIn w q rule pieces →

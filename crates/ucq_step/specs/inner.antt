@@ -1,2 +1,3 @@
 -- Words of contracts that no other crate sees.
 pub mod Building
+pub mod Walked

@@ -9,6 +9,8 @@ ghost use Rattle.ucq_terms.specs.Homomorphism.{IsCoreOf};
 ghost use Rattle.ucq_hom.specs.Space.{IsClear};
 ghost use Rattle.ucq_step.specs.Kept.{AreMore, HasEquivalent, HaveCores, HasAddedCore};
 ghost use Rattle.ucq_step.specs.Steps.{IsStepResult};
+ghost use Rattle.ucq_step.specs.inner.Walked.{WalksIn, AreFoundTo, DoesAddNext, AreCoresOf};
+ghost use Rattle.ucq_unify.specs.Pieces.{AreSinglePieces};
 ghost use Rattle.ucq_step.specs.declared.StepFault.TheVariants.{Memory};
 
 mod kept;
@@ -20,7 +22,7 @@ use std::alloc::{AllocError, AllocFailed, Global};
 use ucq_fold::{may_fold, normal_form, shrink};
 use ucq_hom::HomSpace;
 use ucq_join::Joins;
-use ucq_terms::{NoMemory, Query, Rule};
+use ucq_terms::{NoMemory, Piece, Query, Rule};
 use ucq_unify::single_pieces;
 
 /// What a step gives: each core is a core of a one-step rewriting, and each one-step rewriting is covered by one of them.
@@ -61,6 +63,13 @@ impl From<NoMemory> for StepFault {
     fn from(_error: NoMemory) -> StepFault {
         StepFault::Memory
     }
+}
+
+/// What a walk over sets of pieces found: normal forms of rewritings, and cores.
+#[derive(Drop)]
+struct Found {
+    forms: Kept,
+    cores: Kept,
 }
 
 /// Whether no form that was kept shows that the rewriting is one of those before but for names and order. Its own form is
@@ -130,6 +139,62 @@ fn add_core(
     Ok(())
 }
 
+/// Adds the core of the rewriting by the next set of pieces to what was found, and tells whether there was one.
+fn add_next(
+    alloc: Global,
+    space: &mut HomSpace,
+    query: &Query,
+    rule: &Rule,
+    pieces: &[Piece],
+    joins: &mut Joins,
+    found: &mut Found,
+) -> Result<bool, StepFault>
+    requires single { AreSinglePieces query.now rule.now pieces.now }
+    requires walks { WalksIn joins.old query.now rule.now pieces.now }
+    requires so_far { AreFoundTo joins.old found.old.forms found.old.cores }
+    requires clear { IsClear space.old }
+    ensures next { DoesAddNext joins.old joins.new query.now rule.now result }
+    ensures so_far { OnOk result (AreFoundTo joins.new found.new.forms found.new.cores) }
+    ensures clear { IsClear space.new }
+{
+    let Some(joined) = joins.next()? else {
+        return Ok(false);
+    };
+    let rewriting = rewrite(alloc, query, rule, pieces, &joined)?;
+    let is_only = pieces.len() == 1;
+    add_core(
+        alloc,
+        space,
+        &mut found.forms,
+        &mut found.cores,
+        rewriting,
+        is_only,
+    )?;
+    Ok(true)
+}
+
+/// The cores of the rewritings by all sets of these pieces that make an aggregate.
+fn cores_of(
+    alloc: Global,
+    space: &mut HomSpace,
+    query: &Query,
+    rule: &Rule,
+    pieces: &[Piece],
+) -> Result<Kept, StepFault>
+    requires single { AreSinglePieces query.now rule.now pieces.now }
+    requires clear { IsClear space.old }
+    ensures cores { AreCoresOf query.now rule.now result }
+    ensures clear { IsClear space.new }
+{
+    let mut joins = Joins::new(alloc, query, rule, pieces)?;
+    let mut found = Found {
+        forms: Kept::new(alloc),
+        cores: Kept::new(alloc),
+    };
+    while add_next(alloc, space, query, rule, pieces, &mut joins, &mut found)? {}
+    Ok(found.cores)
+}
+
 /// The cores of the query's rewritings with the rule by all aggregates of single pieces, none of them twice.
 ///
 /// `StepFault::Wide` comes exactly where some one-step rewriting has more than `ATOMS` different atoms, and tells the width
@@ -154,14 +219,7 @@ pub fn step(
             cores: Vec::new(alloc),
         });
     }
-    let mut joins = Joins::new(alloc, query, rule, pieces.as_slice())?;
-    let is_only = pieces.len() == 1;
-    let mut forms = Kept::new(alloc);
-    let mut kept = Kept::new(alloc);
-    while let Some(joined) = joins.next()? {
-        let rewriting = rewrite(alloc, query, rule, pieces.as_slice(), &joined)?;
-        add_core(alloc, space, &mut forms, &mut kept, rewriting, is_only)?;
-    }
-    let cores = kept.into_queries(alloc)?;
+    let cores = cores_of(alloc, space, query, rule, pieces.as_slice())?;
+    let cores = cores.into_queries(alloc)?;
     Ok(Steps { cores })
 }

@@ -13,7 +13,7 @@ use Rattle.ucq_run.specs.declared.form.Form.TheVariants.{Queries}
 use Rattle.ucq_run.specs.declared.outcome.Outcome.{Outcome}
 use Rattle.ucq_run.specs.Inputs.{Call, IsAsked}
 use Rattle.ucq_run.specs.Causes.{IsCause}
-use Rattle.ucq_run.specs.Finished.{AreFactsOf, Question, question_of}
+use Rattle.ucq_run.specs.Finished.{AreFactsOf, Question}
 use Rattle.ucq_run.specs.Parts.{Part, section, header_of, parts_of}
 use Rattle.ucq_run.specs.Printed.{IsEarly}
 

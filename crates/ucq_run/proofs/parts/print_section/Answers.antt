@@ -21,7 +21,7 @@ returns-clause-prints g c = λ facts about.
     let printable : ArePrintable a.names (live_queries s.rows) = live_are_printable a.names s law c.requires.held small in
     let few : length tuples < 2 ^ 64 = omega (arith, c.len.ensures.few, c.len.ensures.len) in
     c.print_finished.ensures.prints s.problem facts a.budget exact printable
-    (λ asks. solved_answers c.answers_are_chase_answers.ensures a s.problem facts (live_queries s.rows) tuples about exact printable few asks (c.requires.solved.answers finished asks))
+    (λ asks. solved_answers c.answers_are_chase_answers.ensures a s.problem facts (live_queries s.rows) tuples about exact printable few asks (c.requires.solved.has.answers finished asks))
 
 pub returns-then-not-is_finished-clause-prints : goal.returns-then-not-is_finished-clause-prints
 returns-then-not-is_finished-clause-prints g c = λ facts about.

@@ -1,6 +1,5 @@
 use Rattle.ucq_words.specs.Settings.{settings_value}
 use Rattle.ucq_reader.specs.Outcome.{input_value}
-use Rattle.ucq_run.specs.declared.form.Form.{Form}
 use Rattle.ucq_run.proofs.Asking.{asked_is_held, budget_within, parts_in_form, workers_within}
 use Rattle.ucq_run.proofs.request.prepare.Goals as goal
 

@@ -3,7 +3,7 @@ use Rattle.ucq_outside.specs.Taken.{change_of}
 use Rattle.ucq_terms.specs.Syntax.{Atom}
 use Rattle.ucq_run.specs.inner.Request.{IsAbout, parts_for}
 use Rattle.ucq_run.proofs.PartTexts.{HasPrinted}
-use Rattle.ucq_run.proofs.sections.print_alone.Given as goal
+use Rattle.ucq_run.proofs.sections.print_all_alone.Given as goal
 
 abbrev pub invariant-loop-asked : goal.invariant-loop-asked
 invariant-loop-asked g l = record {
