@@ -3,7 +3,8 @@
 A case is a folder of cases/. Its file `words` has the words without --workers, `status` the status, `out` and `err` what
 the program writes. The other files are those that the words name. With one worker both streams are compared byte for byte.
 With several, the error stream is; the output may have the queries of a union in another order, their atoms too, and other
-names for variables. A cut's rows may be others then, so its first line and the number of its lines are compared.
+names for variables. A cut's rows may be others then, so of an output with a cut the headers and the first lines of its
+sections and the number of its lines are compared.
 """
 import pathlib
 import subprocess
@@ -20,11 +21,17 @@ def text(case, name, default=''):
     return path.read_text() if path.exists() else default
 
 
+def first_lines(out):
+    """The headers and the first lines of the sections, and the number of all lines."""
+    heads = ('% query ', '% finished', '% cut ')
+    return [line for line in out.split('\n') if line.startswith(heads)], out.count('\n')
+
+
 def is_right(workers, out, want):
     if workers == 1:
         return out == want
-    if want.startswith('% cut'):
-        return out.split('\n')[0] == want.split('\n')[0] and out.count('\n') == want.count('\n')
+    if '% cut ' in want:
+        return first_lines(out) == first_lines(want)
     return same_output(out, want)
 
 

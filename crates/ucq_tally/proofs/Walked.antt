@@ -7,7 +7,7 @@ use Rattle.ucq_join.specs.Names.{Named}
 use Rattle.ucq_join.specs.Walk.{Walk, ComesAfter, IsLast, GoesOn, HasGiven}
 use Rattle.ucq_join.proofs.Orders.{ComesAfter-irrefl}
 use Rattle.ucq_join.proofs.Given.{HasGiven-start, HasGiven-next, HasGiven-all}
-use Rattle.ucq_step.proofs.Walking.{WalksIn}
+use Rattle.ucq_step.specs.inner.Walked.{WalksIn}
 use Rattle.ucq_tally.specs.inner.Sums.{most, IsSaturated}
 use Rattle.ucq_tally.specs.inner.Counts.{HasRewritings}
 

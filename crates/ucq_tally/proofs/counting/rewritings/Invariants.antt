@@ -1,7 +1,7 @@
 use Rattle.std.proofs.Common.{◌≡◌, ◌⊎◌, []}
 use Rattle.ucq_join.specs.Walk.{IsJoinOf}
 use Rattle.ucq_step.proofs.Ranks.{left_of}
-use Rattle.ucq_step.proofs.Walking.{WalksIn}
+use Rattle.ucq_step.specs.inner.Walked.{WalksIn}
 use Rattle.ucq_tally.specs.inner.Sums.{IsSaturated}
 use Rattle.ucq_tally.proofs.Walked.{HasCounted}
 use Rattle.ucq_tally.proofs.counting.rewritings.Given as goal

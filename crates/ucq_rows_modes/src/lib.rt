@@ -1,0 +1,7 @@
+//! Worked rows of what stands on stores that are finished or cut. It has tests alone.
+#![tactic(auto)]
+
+#[cfg(test)]
+mod asserts;
+#[cfg(test)]
+mod containments;

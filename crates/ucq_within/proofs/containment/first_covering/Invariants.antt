@@ -1,0 +1,7 @@
+use Rattle.std.proofs.Common.{ℕ, ◌<◌}
+use Rattle.ucq_terms.specs.Homomorphism.{Covers}
+use Rattle.ucq_store.specs.Store.{query_of}
+use Rattle.ucq_within.proofs.containment.first_covering.Given as goal
+
+abbrev pub invariant-loop-row : goal.invariant-loop-row
+invariant-loop-row l = (earlier : ℕ) → earlier < l.row → ¬ Covers (query_of l.of earlier) l.query
