@@ -3,6 +3,7 @@ mod Written
 mod Reported
 mod PartTexts
 mod InTurn
+mod Turns
 mod Printing
 mod Unknowns
 mod OneSize
