@@ -258,7 +258,7 @@ fn the_university_is_read_with_and_without_its_last_line_feed(rt: HostRuntime) {
     assert_lines(
         &rt,
         rt.alloc(),
-        &[(UNIVERSITY, "12 8 1 3"), (unended, "12 8 1 3")],
+        &[(UNIVERSITY, "12 8 [q]1 3"), (unended, "12 8 [q]1 3")],
     );
 }
 
