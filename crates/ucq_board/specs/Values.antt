@@ -57,7 +57,7 @@ pub record IsSeat (table : TableId) (knows : View) (left : ℕ) (over : Bool) : 
   pub drawn : All (λ row. row < knows.rows) knows.drawn
 
 -- a closed board has a word for each row and two more
-pub record IsClosed (words slots rows : ℕ) : Type 0 where
+pub record IsClosedBoard (words slots rows : ℕ) : Type 0 where
   pub words_are : words ≡ rows + 2
   pub slots_are : slots ≡ 0
   pub few : rows ≤ ROWS

@@ -71,14 +71,14 @@ pub struct Closed {
 
 impl Model for Closed {
     ghost use Rattle.std.specs.Slots.{slots_items, slots_len, IsFull};
-    ghost use Rattle.ucq_board.specs.Values.{ClosedValue, IsClosed, told_by};
+    ghost use Rattle.ucq_board.specs.Values.{ClosedValue, IsClosedBoard, told_by};
 
     ghost Value = { ClosedValue };
 
     ghost view = { λ c. told_by (slots_items c.words.words) c.rows };
 
     ghost invariant = { λ c.
-        IsClosed (slots_len c.words.words) (slots_len c.words.slots) c.rows
+        IsClosedBoard (slots_len c.words.words) (slots_len c.words.slots) c.rows
         × IsFull c.words.words };
 }
 

@@ -18,12 +18,12 @@ use Rattle.ucq_chase.proofs.Steps.{step_grows, OccursIn-known, OccursIn-trigger,
 use Rattle.ucq_terms.proofs.Occurrences.{existentials, Contains-existentials, Contains-from_existentials}
 
 -- The map is given anew where some variables are placed.
-record Extends (vs : List ℕ) (placed target old new : ℕ → Term) : Type 0 where
+pub record Extends (vs : List ℕ) (placed target old new : ℕ → Term) : Type 0 where
   pub on : (v u : ℕ) → Contains vs v → placed v ≡ Variable u → new u ≡ target v
   pub off : (u : ℕ) → ((v : ℕ) → Contains vs v → placed v ≡ Variable u → ⊥) → new u ≡ old u
 
 -- a map can be given anew where the placed variables differ
-extend : (vs : List ℕ) (placed target old : ℕ → Term) → ((v w : ℕ) → Contains vs v → Contains vs w → placed v ≡ placed w → v ≡ w) →
+pub extend : (vs : List ℕ) (placed target old : ℕ → Term) → ((v w : ℕ) → Contains vs v → Contains vs w → placed v ≡ placed w → v ≡ w) →
     (new : ℕ → Term) × Extends vs placed target old new
 extend [] placed target old one = (old, record { on = λ v u i p. absurd (Contains-empty v i); off = λ u f. refl })
 extend (v ∷ vs) placed target old one =
@@ -61,7 +61,7 @@ extend (v ∷ vs) placed target old one =
     )
 
 -- The map carries the one instance into the other, and is as the old map on what the first facts have.
-record Carries (first : List Atom) (old new : ℕ → Term) (from to : List Atom) : Type 0 where
+pub record Carries (first : List Atom) (old new : ℕ → Term) (from to : List Atom) : Type 0 where
   pub into : IsSubset (atoms_image new from) to
   pub agrees : (v : ℕ) → OccursIn first (Variable v) → new v ≡ old v
 
@@ -80,7 +80,7 @@ replay_head rule before next s other old new e agrees moved v o =
     ]
 
 -- a step can be made again from facts into which the instance maps
-replay_step : (rule : Rule) (before next facts : List Atom) (old : ℕ → Term) → IsChaseStep rule before next →
+pub replay_step : (rule : Rule) (before next facts : List Atom) (old : ℕ → Term) → IsChaseStep rule before next →
     IsSubset (atoms_image old before) facts → (more : List Atom) × IsChaseStep rule facts more × ((new : ℕ → Term) × Carries before old new next more)
 replay_step rule before next facts old s into =
     let (placed, f) = fire rule facts (composite old s.trigger) (IsSubset-composite old s.trigger rule.body before facts s.applies into) in
@@ -120,7 +120,7 @@ replay_step rule before next facts old s into =
       ),
     )
 
-record Replayed (rules : List Rule) (first facts last : List Atom) (old : ℕ → Term) : Type 0 where
+pub record Replayed (rules : List Rule) (first facts last : List Atom) (old : ℕ → Term) : Type 0 where
   pub steps : List (List Atom)
   pub end : List Atom
   pub chase : IsChaseSequence rules facts steps end
@@ -128,7 +128,7 @@ record Replayed (rules : List Rule) (first facts last : List Atom) (old : ℕ �
   pub carries : Carries first old new last end
 
 -- and so can a chase
-replay : (rules : List Rule) (first : List Atom) (steps : List (List Atom)) (last facts : List Atom) (old : ℕ → Term) →
+pub replay : (rules : List Rule) (first : List Atom) (steps : List (List Atom)) (last facts : List Atom) (old : ℕ → Term) →
     IsChaseSequence rules first steps last → IsSubset (atoms_image old first) facts → Replayed rules first facts last old
 replay rules first [] last facts old e into = record {
   steps = [];

@@ -11,7 +11,7 @@ pub record Labels : Type 0 where
   pub labels : List ℕ
 
 -- each number has a label
-pub record IsWhole (c : Labels) : Type 0 where
+pub record IsLabelled (c : Labels) : Type 0 where
   pub room : length c.labels ≡ size c.numbers
 
 -- The labels tell the classes that the links make: nodes that have numbers have one label exactly where a chain of links

@@ -3,7 +3,7 @@ ghost use Rattle.std.specs.Prelude.{◌≡◌, ◌<◌, ◌++◌, ◌↔◌, [],
 ghost use Rattle.ucq_partition.specs.Partition.{label_of};
 ghost use Rattle.ucq_terms.specs.Unifier.{Node as NodeValue, AreJoined, HasNoClash};
 ghost use Rattle.ucq_classes.specs.Numbers.{size, IsNumbered, IsNumbering, NumbersAtom, NumbersHead, node_of};
-ghost use Rattle.ucq_classes.specs.Classes.{IsWhole, IsClassed, atom_links};
+ghost use Rattle.ucq_classes.specs.Classes.{IsLabelled, IsClassed, atom_links};
 
 use crate::nodes::{term_of_copy, term_of_query};
 use crate::{Node, Numbering};
@@ -20,13 +20,14 @@ pub struct Classes<'n> {
 }
 
 impl<'n> Model for Classes<'n> {
-    ghost use Rattle.ucq_classes.specs.Classes.{Labels, IsWhole};
+    ghost use Rattle.ucq_classes.specs.Classes.{Labels, IsLabelled};
 
     ghost Value = { Labels };
 
     ghost view = { λ c. record { numbers = c.numbering.now; labels = c.partition } };
 
-    ghost invariant = { λ c. IsWhole (record { numbers = c.numbering.now; labels = c.partition }) };
+    ghost invariant = { λ c.
+        IsLabelled (record { numbers = c.numbering.now; labels = c.partition }) };
 }
 
 impl<'n> Classes<'n> {
@@ -47,7 +48,7 @@ impl<'n> Classes<'n> {
     /// The numbering.
     pub fn numbering(&self) -> &Numbering
         ensures numbers { result.now ≡ self.now.numbers }
-        ensures whole { IsWhole self.now }
+        ensures whole { IsLabelled self.now }
     {
         self.numbering
     }

@@ -12,10 +12,10 @@ use Rattle.ucq_hom.specs.Search.{ArePlaces, IsOrder}
 use Rattle.ucq_hom.proofs.Ordered.{ArePlaces-at}
 use Rattle.ucq_facts.specs.Facts.{matching}
 use Rattle.ucq_facts.proofs.Matching.{Contains-from_matching}
-use Rattle.ucq_eval.specs.inner.Join.{IsGrownBy, IsCollected, Gives, GivesBy, HasSamePlaces, IsKey, AreTargets, IsChoice}
+use Rattle.ucq_eval.specs.inner.Join.{IsGrownBy, IsCollected, SendsToTuple, GivesBy, HasSamePlaces, IsKey, AreTargets, IsChoice}
 use Rattle.ucq_eval.proofs.Places.{read_of}
 use Rattle.ucq_eval.proofs.Grown.{IsGrownBy-nothing, IsGrownBy-same, IsGrownBy-both}
-use Rattle.ucq_eval.proofs.Given.{none_by_no_target, none_by_clash, GivesBy-cases, GivesBy-left, GivesBy-right, GivesBy-same, GivesBy-from_same, GivesBy-matched, Gives-matched, Gives-same, Gives-from_same, Gives-by_matching, matching-given, Gives-maps, MapsInto-given}
+use Rattle.ucq_eval.proofs.Given.{none_by_no_target, none_by_clash, GivesBy-cases, GivesBy-left, GivesBy-right, GivesBy-same, GivesBy-from_same, GivesBy-matched, SendsToTuple-matched, SendsToTuple-same, SendsToTuple-from_same, SendsToTuple-by_matching, matching-given, SendsToTuple-maps, MapsInto-given}
 
 -- facts of an atom that was read at one of the places
 pub chosen : (b : Bound) (facts atoms : List Atom) (places : List ℕ) (choice : ℕ) (a : Atom) (targets : List Atom) → choice < length places → ArePlaces atoms places →
@@ -51,20 +51,20 @@ found_more a b q place xs target rest others facts us vs ws e s f g =
 -- all the facts that match
 pub found_all : (b : Bound) (q : Query) (places : List ℕ) (place : ℕ) (rest : List ℕ) (facts targets : List Atom) (key : Option (ℕ × Term)) (us vs : List (List ℕ)) →
     targets ≡ matching facts (atom_at q.atoms place).name (length (atom_at q.atoms place).terms) key → IsKey b (atom_at q.atoms place).terms key →
-    HasSamePlaces places (place ∷ rest) → IsGrownBy (GivesBy b q place targets rest facts) us vs → IsGrownBy (Gives b q places facts) us vs
+    HasSamePlaces places (place ∷ rest) → IsGrownBy (GivesBy b q place targets rest facts) us vs → IsGrownBy (SendsToTuple b q places facts) us vs
 found_all b q places place rest facts targets key us vs e k s f =
     IsGrownBy-same _ _ us vs
-    (λ t g. Gives-from_same b q places (place ∷ rest) facts t s
-    (Gives-by_matching b q place rest facts key t (subst (λ (xs : List Atom). GivesBy b q place xs rest facts t) e g)))
+    (λ t g. SendsToTuple-from_same b q places (place ∷ rest) facts t s
+    (SendsToTuple-by_matching b q place rest facts key t (subst (λ (xs : List Atom). GivesBy b q place xs rest facts t) e g)))
     (λ t g. subst (λ (xs : List Atom). GivesBy b q place xs rest facts t) (sym e)
-    (matching-given b q place rest facts key t k (Gives-same b q places (place ∷ rest) facts t s g))) f
+    (matching-given b q place rest facts key t k (SendsToTuple-same b q places (place ∷ rest) facts t s g))) f
 
 -- a target that the atom is matched with, and one with which it clashes
 pub found_matched : (a b : Bound) (q : Query) (place : ℕ) (target : Atom) (rest : List ℕ) (facts : List Atom) (us vs : List (List ℕ)) →
-    (atom_at q.atoms place).name ≡ target.name → IsMatched a b (atom_at q.atoms place).terms target.terms → IsGrownBy (Gives b q rest facts) us vs →
+    (atom_at q.atoms place).name ≡ target.name → IsMatched a b (atom_at q.atoms place).terms target.terms → IsGrownBy (SendsToTuple b q rest facts) us vs →
     IsGrownBy (GivesBy a q place (target ∷ []) rest facts) us vs
 found_matched a b q place target rest facts us vs n m f =
-    IsGrownBy-same _ _ us vs (λ t g. GivesBy-matched a b q place target rest facts t n m g) (λ t g. Gives-matched a b q place target rest facts t m g) f
+    IsGrownBy-same _ _ us vs (λ t g. GivesBy-matched a b q place target rest facts t n m g) (λ t g. SendsToTuple-matched a b q place target rest facts t m g) f
 
 pub found_clash : (a : Bound) (q : Query) (place : ℕ) (target : Atom) (rest : List ℕ) (facts : List Atom) (us : List (List ℕ)) →
     IsClash a (atom_at q.atoms place).terms target.terms → IsGrownBy (GivesBy a q place (target ∷ []) rest facts) us us
@@ -81,10 +81,10 @@ name-first facts done left name arity key all target rest e f g =
 
 -- the tuples of all maps are those of homomorphisms
 pub IsCollected-found : (b : Bound) (q : Query) (order : List ℕ) (facts : List Atom) (us vs : List (List ℕ)) → IsClear b.images → IsOrder q.atoms order →
-    IsGrownBy (Gives b q order facts) us vs → IsCollected q facts us vs
+    IsGrownBy (SendsToTuple b q order facts) us vs → IsCollected q facts us vs
 IsCollected-found b q order facts us vs c o f = record {
   each = λ t. (
     λ i. elim ((f.each t).0 i) [ inl j ↦ inl j | inr g ↦ inr (MapsInto-given b q order facts t o g) ],
-    λ i. elim i [ inl j ↦ (f.each t).1 (inl j) | inr m ↦ (f.each t).1 (inr (Gives-maps b q order facts t c o m)) ],
+    λ i. elim i [ inl j ↦ (f.each t).1 (inl j) | inr m ↦ (f.each t).1 (inr (SendsToTuple-maps b q order facts t c o m)) ],
   );
 }

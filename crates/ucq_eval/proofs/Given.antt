@@ -22,7 +22,7 @@ use Rattle.ucq_hom.proofs.Homs.{Extends-clear, Extends-mapping, Sends-homomorphi
 use Rattle.ucq_hom.proofs.Matched.{Extends-less, IsSome-grown, the_value}
 use Rattle.ucq_facts.specs.Facts.{IsMatch, matching}
 use Rattle.ucq_facts.proofs.Matching.{Contains-matching, Contains-from_matching}
-use Rattle.ucq_eval.specs.inner.Join.{Gives, GivesBy, value, HasUnknown, IsRead, IsUnread, AreReached, HasSamePlaces, IsKey}
+use Rattle.ucq_eval.specs.inner.Join.{SendsToTuple, GivesBy, value, HasUnknown, TellsTuple, TellsNone, AreReached, HasSamePlaces, IsKey}
 
 -- a map that agrees with what is bound carries a term to what is bound to it
 pub value-image : (h : ℕ → Term) (b : Bound) (t s : Term) → Extends h b → value b t ≡ Some s → term_image h t ≡ s
@@ -50,7 +50,7 @@ constants_of h b (t ∷ ts) (c ∷ cs) e q =
     ap₂ (λ (z : Term) zs. z ∷ zs) (value-image h b t (Constant c) e first) (constants_of h b ts cs e rest)
 
 -- an unknown value among the answers rules all tuples out
-pub none_by_unknown : (b : Bound) (q : Query) (places : List ℕ) (facts : List Atom) (tuple : List ℕ) → HasUnknown b q.answers → Gives b q places facts tuple → ⊥
+pub none_by_unknown : (b : Bound) (q : Query) (places : List ℕ) (facts : List Atom) (tuple : List ℕ) → HasUnknown b q.answers → SendsToTuple b q places facts tuple → ⊥
 none_by_unknown b q places facts tuple u g =
     let stands : Contains (map Constant tuple) (term_image g.mapping u.term) =
     subst (λ (ts : List Term). Contains ts (term_image g.mapping u.term)) g.answers (Contains-map (term_image g.mapping) q.answers u.term u.among) in
@@ -59,13 +59,13 @@ none_by_unknown b q places facts tuple u g =
     cc
 
 -- where the answers are read, no other tuple is given, and it is where there is no place
-pub read_alone : (b : Bound) (q : Query) (places : List ℕ) (facts : List Atom) (tuple other : List ℕ) → IsRead b q.answers tuple → Gives b q places facts other →
+pub read_alone : (b : Bound) (q : Query) (places : List ℕ) (facts : List Atom) (tuple other : List ℕ) → TellsTuple b q.answers tuple → SendsToTuple b q places facts other →
     other ≡ tuple
 read_alone b q places facts tuple other r g = constants_apart other tuple (sym g.answers ∙ constants_of g.mapping b q.answers tuple g.extends r.each)
 
-pub Gives-read : (b : Bound) (q : Query) (places : List ℕ) (facts : List Atom) (tuple : List ℕ) → IsRead b q.answers tuple → length places ≡ 0 →
-    Gives b q places facts tuple
-Gives-read b q places facts tuple r z = record {
+pub SendsToTuple-read : (b : Bound) (q : Query) (places : List ℕ) (facts : List Atom) (tuple : List ℕ) → TellsTuple b q.answers tuple → length places ≡ 0 →
+    SendsToTuple b q places facts tuple
+SendsToTuple-read b q places facts tuple r z = record {
   mapping = mapping b.images;
   extends = Extends-mapping b;
   sent = record { each = λ p i. absurd (let l = length-positive places p i in omega arith) };
@@ -73,7 +73,7 @@ Gives-read b q places facts tuple r z = record {
 }
 
 -- where an answer isn't bound yet, there is a place
-pub place_by_unread : (b : Bound) (q : Query) (places : List ℕ) → IsUnread b q.answers → (HasUnknown b q.answers → ⊥) → AreReached b q places → 0 < length places
+pub place_by_unread : (b : Bound) (q : Query) (places : List ℕ) → TellsNone b q.answers → (HasUnknown b q.answers → ⊥) → AreReached b q places → 0 < length places
 place_by_unread b q places u n r = go u.term u.among u.other
   where
     bound : (v : ℕ) (s : Term) → Contains q.answers (Variable v) → image b.images v ≡ Some s → ((c : ℕ) → value b (Variable v) ≡ Some (Constant c) → ⊥) → 0 < length places
@@ -94,18 +94,18 @@ Sends-same h atoms xs ys facts s g = record { each = λ p i. g.each p ((s.each p
 flipped : (xs ys : List ℕ) → HasSamePlaces xs ys → HasSamePlaces ys xs
 flipped xs ys s = record { size = sym s.size; each = λ p. ((s.each p).1, (s.each p).0) }
 
-pub Gives-same : (b : Bound) (q : Query) (xs ys : List ℕ) (facts : List Atom) (tuple : List ℕ) → HasSamePlaces xs ys → Gives b q xs facts tuple →
-    Gives b q ys facts tuple
-Gives-same b q xs ys facts tuple s g = record {
+pub SendsToTuple-same : (b : Bound) (q : Query) (xs ys : List ℕ) (facts : List Atom) (tuple : List ℕ) → HasSamePlaces xs ys → SendsToTuple b q xs facts tuple →
+    SendsToTuple b q ys facts tuple
+SendsToTuple-same b q xs ys facts tuple s g = record {
   mapping = g.mapping;
   extends = g.extends;
   sent = Sends-same g.mapping q.atoms xs ys facts s g.sent;
   answers = g.answers;
 }
 
-pub Gives-from_same : (b : Bound) (q : Query) (xs ys : List ℕ) (facts : List Atom) (tuple : List ℕ) → HasSamePlaces xs ys → Gives b q ys facts tuple →
-    Gives b q xs facts tuple
-Gives-from_same b q xs ys facts tuple s g = Gives-same b q ys xs facts tuple (flipped xs ys s) g
+pub SendsToTuple-from_same : (b : Bound) (q : Query) (xs ys : List ℕ) (facts : List Atom) (tuple : List ℕ) → HasSamePlaces xs ys → SendsToTuple b q ys facts tuple →
+    SendsToTuple b q xs facts tuple
+SendsToTuple-from_same b q xs ys facts tuple s g = SendsToTuple-same b q ys xs facts tuple (flipped xs ys s) g
 
 pub GivesBy-same : (b : Bound) (q : Query) (place : ℕ) (targets : List Atom) (xs ys : List ℕ) (facts : List Atom) (tuple : List ℕ) → HasSamePlaces xs ys →
     GivesBy b q place targets xs facts tuple → GivesBy b q place targets ys facts tuple
@@ -172,7 +172,7 @@ only x y i = elim (Contains-cons_cases x [] y i) [ inl e ↦ sym e | inr j ↦ a
 
 -- the atom matched onto the target
 pub GivesBy-matched : (a b : Bound) (q : Query) (place : ℕ) (target : Atom) (rest : List ℕ) (facts : List Atom) (tuple : List ℕ) →
-    (atom_at q.atoms place).name ≡ target.name → IsMatched a b (atom_at q.atoms place).terms target.terms → Gives b q rest facts tuple →
+    (atom_at q.atoms place).name ≡ target.name → IsMatched a b (atom_at q.atoms place).terms target.terms → SendsToTuple b q rest facts tuple →
     GivesBy a q place (target ∷ []) rest facts tuple
 GivesBy-matched a b q place target rest facts tuple n m g =
     let here : atom_image g.mapping (atom_at q.atoms place) ≡ target = atom_path _ _ n (m.carried g.mapping g.extends) in
@@ -184,9 +184,9 @@ GivesBy-matched a b q place target rest facts tuple n m g =
       answers = g.answers;
     }
 
-pub Gives-matched : (a b : Bound) (q : Query) (place : ℕ) (target : Atom) (rest : List ℕ) (facts : List Atom) (tuple : List ℕ) →
-    IsMatched a b (atom_at q.atoms place).terms target.terms → GivesBy a q place (target ∷ []) rest facts tuple → Gives b q rest facts tuple
-Gives-matched a b q place target rest facts tuple m g = record {
+pub SendsToTuple-matched : (a b : Bound) (q : Query) (place : ℕ) (target : Atom) (rest : List ℕ) (facts : List Atom) (tuple : List ℕ) →
+    IsMatched a b (atom_at q.atoms place).terms target.terms → GivesBy a q place (target ∷ []) rest facts tuple → SendsToTuple b q rest facts tuple
+SendsToTuple-matched a b q place target rest facts tuple m g = record {
   mapping = g.mapping;
   extends = m.forced g.mapping g.extends (ap (λ (x : Atom). x.terms) (only target (atom_image g.mapping (atom_at q.atoms place)) g.first));
   sent = g.sent;
@@ -222,9 +222,9 @@ IsMatch-image h b a (Some key) e k = record {
   bound_is = slice_get-map (term_image h) a.terms key.0 ∙ (ap (option_map (term_image h)) k.1 ∙ ap Some (value-image h b k.0 key.1 e k.2));
 }
 
-pub Gives-by_matching : (b : Bound) (q : Query) (place : ℕ) (rest : List ℕ) (facts : List Atom) (key : Option (ℕ × Term)) (tuple : List ℕ) →
-    GivesBy b q place (matching facts (atom_at q.atoms place).name (length (atom_at q.atoms place).terms) key) rest facts tuple → Gives b q (place ∷ rest) facts tuple
-Gives-by_matching b q place rest facts key tuple g = record {
+pub SendsToTuple-by_matching : (b : Bound) (q : Query) (place : ℕ) (rest : List ℕ) (facts : List Atom) (key : Option (ℕ × Term)) (tuple : List ℕ) →
+    GivesBy b q place (matching facts (atom_at q.atoms place).name (length (atom_at q.atoms place).terms) key) rest facts tuple → SendsToTuple b q (place ∷ rest) facts tuple
+SendsToTuple-by_matching b q place rest facts key tuple g = record {
   mapping = g.mapping;
   extends = g.extends;
   sent = record {
@@ -239,7 +239,7 @@ Gives-by_matching b q place rest facts key tuple g = record {
 }
 
 pub matching-given : (b : Bound) (q : Query) (place : ℕ) (rest : List ℕ) (facts : List Atom) (key : Option (ℕ × Term)) (tuple : List ℕ) →
-    IsKey b (atom_at q.atoms place).terms key → Gives b q (place ∷ rest) facts tuple →
+    IsKey b (atom_at q.atoms place).terms key → SendsToTuple b q (place ∷ rest) facts tuple →
     GivesBy b q place (matching facts (atom_at q.atoms place).name (length (atom_at q.atoms place).terms) key) rest facts tuple
 matching-given b q place rest facts key tuple k g = record {
   mapping = g.mapping;
@@ -251,16 +251,16 @@ matching-given b q place rest facts key tuple k g = record {
 }
 
 -- where nothing is bound and the places are those of all atoms, the maps are the homomorphisms
-pub Gives-maps : (b : Bound) (q : Query) (order : List ℕ) (facts : List Atom) (tuple : List ℕ) → IsClear b.images → IsOrder q.atoms order →
-    MapsInto q facts (map Constant tuple) → Gives b q order facts tuple
-Gives-maps b q order facts tuple c o m = record {
+pub SendsToTuple-maps : (b : Bound) (q : Query) (order : List ℕ) (facts : List Atom) (tuple : List ℕ) → IsClear b.images → IsOrder q.atoms order →
+    MapsInto q facts (map Constant tuple) → SendsToTuple b q order facts tuple
+SendsToTuple-maps b q order facts tuple c o m = record {
   mapping = m.mapping;
   extends = Extends-clear m.mapping b c;
   sent = Sends-homomorphism m.mapping q order facts (map Constant tuple) o.places m.homomorphism;
   answers = m.homomorphism.answers;
 }
 
-pub MapsInto-given : (b : Bound) (q : Query) (order : List ℕ) (facts : List Atom) (tuple : List ℕ) → IsOrder q.atoms order → Gives b q order facts tuple →
+pub MapsInto-given : (b : Bound) (q : Query) (order : List ℕ) (facts : List Atom) (tuple : List ℕ) → IsOrder q.atoms order → SendsToTuple b q order facts tuple →
     MapsInto q facts (map Constant tuple)
 MapsInto-given b q order facts tuple o g = record {
   mapping = g.mapping;

@@ -8,12 +8,12 @@ use Rattle.ucq_terms.specs.declared.Term.TheVariants.{Constant}
 use Rattle.ucq_terms.specs.Syntax.{Atom, Query}
 use Rattle.ucq_terms.specs.Homomorphism.{MapsInto}
 use Rattle.ucq_terms.proofs.Lists.{Any-contains, Any-from_contains, Contains-cons_cases, Contains-empty, Contains-first}
-use Rattle.ucq_eval.specs.Answers.{AreAnswers, AreFound, IsAnswer}
+use Rattle.ucq_eval.specs.Answers.{AreAnswers, AreTuplesOf, IsAnswer}
 use Rattle.ucq_eval.specs.Order.{AreInOrder}
 use Rattle.ucq_eval.specs.inner.Join.{IsCollected}
 
 -- before the first member
-pub none_found : (facts : List Atom) → AreFound [] facts []
+pub none_found : (facts : List Atom) → AreTuplesOf [] facts []
 none_found facts = record {
   each = λ tuple. (
     λ h. absurd (Contains-empty tuple h),
@@ -22,7 +22,7 @@ none_found facts = record {
 }
 
 -- after one member more
-pub one_member_more : (done : List Query) (q : Query) (facts : List Atom) (old new : List (List ℕ)) → AreFound done facts old → IsCollected q facts old new → AreFound (done ++ q ∷ []) facts new
+pub one_member_more : (done : List Query) (q : Query) (facts : List Atom) (old new : List (List ℕ)) → AreTuplesOf done facts old → IsCollected q facts old new → AreTuplesOf (done ++ q ∷ []) facts new
 one_member_more done q facts old new found collected = record { each = λ tuple. (forth tuple, back tuple) }
   where
     forth : (tuple : List ℕ) → Contains new tuple → IsAnswer (done ++ q ∷ []) facts tuple
@@ -45,15 +45,15 @@ one_member_more done q facts old new found collected = record { each = λ tuple.
         ]
 
 -- the same of the members up to a place
-pub member_at_place : (union : List Query) (place : ℕ) (q : Query) (facts : List Atom) (old new : List (List ℕ)) → slice_get union place ≡ Some q → AreFound (take place union) facts old → IsCollected q facts old new → AreFound (take (place + 1) union) facts new
+pub member_at_place : (union : List Query) (place : ℕ) (q : Query) (facts : List Atom) (old new : List (List ℕ)) → slice_get union place ≡ Some q → AreTuplesOf (take place union) facts old → IsCollected q facts old new → AreTuplesOf (take (place + 1) union) facts new
 member_at_place union place q facts old new at found collected =
     let below : place < length union = slice_get_within union place q at in
     let is : get_or union place q ≡ q = get_or_from_slice_get union place q q at in
     let more : take (place + 1) union ≡ take place union ++ q ∷ [] = subst (λ (x : Query). take (place + 1) union ≡ take place union ++ x ∷ []) is (take_more union place q below) in
-    subst (λ (done : List Query). AreFound done facts new) (sym more) (one_member_more (take place union) q facts old new found collected)
+    subst (λ (done : List Query). AreTuplesOf done facts new) (sym more) (one_member_more (take place union) q facts old new found collected)
 
 -- the tuples found, in order, are the answers
-pub in_order_are_answers : (names : List (List ℕ)) (union : List Query) (facts : List Atom) (found tuples : List (List ℕ)) → AreFound union facts found → AreInOrder names found tuples → AreAnswers names union facts tuples
+pub in_order_are_answers : (names : List (List ℕ)) (union : List Query) (facts : List Atom) (found tuples : List (List ℕ)) → AreTuplesOf union facts found → AreInOrder names found tuples → AreAnswers names union facts tuples
 in_order_are_answers names union facts found tuples all sorted = record {
   each = λ tuple. (λ h. (all.each tuple).0 ((sorted.same tuple).0 h), λ h. (sorted.same tuple).1 ((all.each tuple).1 h));
   order = sorted.order;

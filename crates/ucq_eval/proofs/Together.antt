@@ -15,9 +15,9 @@ use Rattle.ucq_terms.specs.Homomorphism.{MapsInto}
 use Rattle.ucq_terms.proofs.Lists.{Any-from_contains, Contains-cons_cases, Contains-empty, Contains-first}
 use Rattle.ucq_terms.proofs.Texts.{Contains-slice_get}
 use Rattle.ucq_eval.specs.declared.split.Search.{Search}
-use Rattle.ucq_eval.specs.Answers.{AreFound, IsAnswer, constants}
+use Rattle.ucq_eval.specs.Answers.{AreTuplesOf, IsAnswer, constants}
 use Rattle.ucq_eval.specs.inner.Join.{IsCollected}
-use Rattle.ucq_eval.specs.inner.Split.{Follows, IsFoundBy, IsMerged, tuples_in}
+use Rattle.ucq_eval.specs.inner.Split.{GoesThrough, IsFoundBy, IsMerged, tuples_in}
 
 -- ---- lists beside lists
 
@@ -102,7 +102,7 @@ module _ (union : List Query) (facts : List Atom) where
       same_member e = cc
 
   -- the members at all places are the members
-  all_places : (tuples : List (List ℕ)) → AreFoundAt union facts (range_with_len 0 (length union)) tuples → AreFound union facts tuples
+  all_places : (tuples : List (List ℕ)) → AreFoundAt union facts (range_with_len 0 (length union)) tuples → AreTuplesOf union facts tuples
   all_places tuples found = record { each = λ tuple. (λ h. forth tuple ((found.each tuple).0 h), λ h. (found.each tuple).1 (back tuple h)) }
     where
       forth : (tuple : List ℕ) → IsAnswerAt union facts (range_with_len 0 (length union)) tuple → IsAnswer union facts tuple
@@ -130,11 +130,11 @@ module _ (union : List Query) (facts : List Atom) where
     abbrev IsSearchAt : List ℕ → Result Search E → Type 0
     IsSearchAt places r = IfOk r (λ (s : Search). AreFoundAt union facts places (tuples_in s.found.keys))
 
-    search_more : (xs : List ℕ) (a : Result Search E) (place : ℕ) (r : Result Search E) → IsSearchAt xs a → IfOk r (Follows union facts a place) → IsSearchAt (xs ++ place ∷ []) r
-    search_more xs a place r h f = IfOk-then r _ _ f (λ (after : Search) (k : Follows union facts a place after).
+    search_more : (xs : List ℕ) (a : Result Search E) (place : ℕ) (r : Result Search E) → IsSearchAt xs a → IfOk r (GoesThrough union facts a place) → IsSearchAt (xs ++ place ∷ []) r
+    search_more xs a place r h f = IfOk-then r _ _ f (λ (after : Search) (k : GoesThrough union facts a place after).
         one_more_at xs place k.member (tuples_in k.search.found.keys) (tuples_in after.found.keys) k.at (subst (λ (x : Result Search E). IsSearchAt xs x) k.was h) k.collected)
 
-    piece_found : (piece : List ℕ) (u : Result Search E) → (e : Result Search E) × IfOk e (λ (s : Search). s.found.keys ≡ []) × Folds (λ a place b. IfOk b (Follows union facts a place)) e piece u → IsSearchAt piece u
+    piece_found : (piece : List ℕ) (u : Result Search E) → (e : Result Search E) × IfOk e (λ (s : Search). s.found.keys ≡ []) × Folds (λ a place b. IfOk b (GoesThrough union facts a place)) e piece u → IsSearchAt piece u
     piece_found piece u (e, start, folds) = Folds-elim _ IsSearchAt search_more piece e u (IfOk-then e _ _ start (λ (s : Search) k. empty_at s.found.keys k)) folds
 
   module _ {S E : Type 0} where
@@ -173,10 +173,10 @@ module _ (union : List Query) (facts : List Atom) where
     found_together :
         (pieces : List (List ℕ)) (searches : List (Result Search E)) (sets : List (Result (IndexSet (Vec ℕ) S) E)) (r : Result (IndexSet (Vec ℕ) S) E) →
         flat_map (λ l. l) pieces ≡ range_with_len 0 (length union) →
-        AllZip (λ piece u. (e : Result Search E) × IfOk e (λ (s : Search). s.found.keys ≡ []) × Folds (λ a place b. IfOk b (Follows union facts a place)) e piece u) pieces searches →
+        AllZip (λ piece u. (e : Result Search E) × IfOk e (λ (s : Search). s.found.keys ≡ []) × Folds (λ a place b. IfOk b (GoesThrough union facts a place)) e piece u) pieces searches →
         AllZip (λ u v. IfOk v (IsFoundBy u)) searches sets →
         Reduces (λ e. IfOk e (λ (s : IndexSet (Vec ℕ) S). s.keys ≡ [])) (λ a b x. IfOk x (IsMerged a b)) sets r →
-        IfOk r (λ (s : IndexSet (Vec ℕ) S). AreFound union facts (tuples_in s.keys))
+        IfOk r (λ (s : IndexSet (Vec ℕ) S). AreTuplesOf union facts (tuples_in s.keys))
     found_together pieces searches sets r whole folded shown reduced =
         let each_set : AllZip IsSetAt pieces sets = AllZip-through_middle _ _ IsSetAt (λ piece u v h k. set_of piece u v (piece_found piece u h) k) pieces searches sets folded shown in
         let made : IsMadeOf sets r = Reduces-elim _ _ IsMadeOf made_of_none (λ xs a x y h f. made_of_both xs (x ∷ []) a x y h (made_of_one x) f) made_of_both sets r reduced in
@@ -186,14 +186,14 @@ module _ (union : List Query) (facts : List Atom) where
     pub found_by_lent :
         (lent_union : List Query) (lent_facts : List Atom) (pieces : List (List ℕ)) (searches : List (Result Search E)) (sets : List (Result (IndexSet (Vec ℕ) S) E)) (r : Result (IndexSet (Vec ℕ) S) E) →
         flat_map (λ l. l) pieces ≡ range_with_len 0 (length union) →
-        AllZip (λ piece u. (e : Result Search E) × IfOk e (λ (s : Search). s.found.keys ≡ []) × Folds (λ a place b. IfOk b (Follows lent_union lent_facts a place)) e piece u) pieces searches →
+        AllZip (λ piece u. (e : Result Search E) × IfOk e (λ (s : Search). s.found.keys ≡ []) × Folds (λ a place b. IfOk b (GoesThrough lent_union lent_facts a place)) e piece u) pieces searches →
         AllZip (λ u v. IfOk v (IsFoundBy u)) searches sets →
         Reduces (λ e. IfOk e (λ (s : IndexSet (Vec ℕ) S). s.keys ≡ [])) (λ a b x. IfOk x (IsMerged a b)) sets r →
         lent_union ≡ union →
         lent_facts ≡ facts →
-        IfOk r (λ (s : IndexSet (Vec ℕ) S). AreFound union facts (tuples_in s.keys))
+        IfOk r (λ (s : IndexSet (Vec ℕ) S). AreTuplesOf union facts (tuples_in s.keys))
     found_by_lent lent_union lent_facts pieces searches sets r whole folded shown reduced same_union same_facts =
         found_together pieces searches sets r whole
-        (subst (λ (base : List Atom). AllZip (λ piece u. (e : Result Search E) × IfOk e (λ (s : Search). s.found.keys ≡ []) × Folds (λ a place b. IfOk b (Follows union base a place)) e piece u) pieces searches) same_facts
-        (subst (λ (members : List Query). AllZip (λ piece u. (e : Result Search E) × IfOk e (λ (s : Search). s.found.keys ≡ []) × Folds (λ a place b. IfOk b (Follows members lent_facts a place)) e piece u) pieces searches) same_union folded))
+        (subst (λ (base : List Atom). AllZip (λ piece u. (e : Result Search E) × IfOk e (λ (s : Search). s.found.keys ≡ []) × Folds (λ a place b. IfOk b (GoesThrough union base a place)) e piece u) pieces searches) same_facts
+        (subst (λ (members : List Query). AllZip (λ piece u. (e : Result Search E) × IfOk e (λ (s : Search). s.found.keys ≡ []) × Folds (λ a place b. IfOk b (GoesThrough members lent_facts a place)) e piece u) pieces searches) same_union folded))
         shown reduced

@@ -21,7 +21,7 @@ pub record AreAnswers (names : List (List ℕ)) (union : List Query) (facts : Li
   pub order : IsStrictlySortedBy (tuple_cmp names) tuples
 
 -- these tuples, in some order
-pub record AreFound (union : List Query) (facts : List Atom) (tuples : List (List ℕ)) : Type 0 where
+pub record AreTuplesOf (union : List Query) (facts : List Atom) (tuples : List (List ℕ)) : Type 0 where
   pub each : (tuple : List ℕ) → Contains tuples tuple ↔ IsAnswer union facts tuple
 
 -- names, and the tuples that are printed with them

@@ -1,6 +1,6 @@
 //! The answers of a union.
 ghost use Rattle.std.specs.Prelude.{◌≡◌, map, IfOk};
-ghost use Rattle.ucq_eval.specs.Answers.{AreAnswers, AreFound};
+ghost use Rattle.ucq_eval.specs.Answers.{AreAnswers, AreTuplesOf};
 
 use crate::join::collect;
 use crate::order::in_order;
@@ -14,7 +14,8 @@ use ucq_terms::{Names, NoMemory, Union};
 
 /// The tuples of constants with which some member maps into the facts.
 fn found_of(alloc: Global, union: &Union, facts: &Facts) -> Result<IndexSet<Vec<u32>>, NoMemory>
-    ensures { IfOk result (λ found. AreFound union.now facts.now (map (λ t. t.items) found.keys)) }
+    ensures { IfOk result (λ found.
+        AreTuplesOf union.now facts.now (map (λ t. t.items) found.keys)) }
 {
     let mut bindings = Bindings::new(alloc)?;
     let mut found = IndexSet::new(alloc);

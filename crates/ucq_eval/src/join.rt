@@ -2,7 +2,7 @@
 ghost use Rattle.std.specs.Prelude.{◌≡◌, ◌<◌, ◌≤◌, ℕ, ◌∷◌, [], length, map, Contains, IsTrue, ◌↔◌, true, false, OnOk, slice_index};
 ghost use Rattle.ucq_terms.specs.Unifier.{atom_at};
 ghost use Rattle.ucq_hom.specs.Search.{ArePlaces};
-ghost use Rattle.ucq_eval.specs.inner.Join.{IsGrownBy, IsCollected, Gives, GivesBy, value as value_of, HasUnknown, IsRead, IsUnread, AreReached, HasSamePlaces, AreTargets, IsChoice};
+ghost use Rattle.ucq_eval.specs.inner.Join.{IsGrownBy, IsCollected, SendsToTuple, GivesBy, value as value_of, HasUnknown, TellsTuple, TellsNone, AreReached, HasSamePlaces, AreTargets, IsChoice};
 
 use indexmap::IndexSet;
 use ucq_facts::{Facts, Matches};
@@ -35,8 +35,8 @@ fn has_unknown(bindings: &Bindings, terms: &[Term]) -> bool
 /// Writes the constants that the terms are bound to, if each is bound to one.
 fn read(bindings: &Bindings, terms: &[Term], tuple: &mut [u32]) -> bool
     requires { length tuple.old ≡ length terms.now }
-    ensures read { result ≡ true → IsRead bindings.now terms.now tuple.new }
-    ensures unread { result ≡ false → IsUnread bindings.now terms.now }
+    ensures read { result ≡ true → TellsTuple bindings.now terms.now tuple.new }
+    ensures unread { result ≡ false → TellsNone bindings.now terms.now }
 {
     for i in 0..terms.len() {
         match value(bindings, terms[i]) {
@@ -132,7 +132,7 @@ fn explore(
     ensures found { OnOk
         result
         (IsGrownBy
-        (Gives bindings.old query.now places.old facts.now)
+        (SendsToTuple bindings.old query.now places.old facts.now)
         (map (λ t. t.items) found.old.keys)
         (map (λ t. t.items) found.new.keys)) }
 {
@@ -170,7 +170,7 @@ fn branch(
     ensures found { OnOk
         result
         (IsGrownBy
-        (Gives bindings.old query.now places.old facts.now)
+        (SendsToTuple bindings.old query.now places.old facts.now)
         (map (λ t. t.items) found.old.keys)
         (map (λ t. t.items) found.new.keys)) }
 {

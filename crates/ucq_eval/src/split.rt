@@ -1,8 +1,8 @@
 //! The answers of a union, by several threads.
 ghost use Rattle.std.specs.Prelude.{◌≡◌, ◌<◌, [], length, map, Contains, IfOk};
-ghost use Rattle.ucq_eval.specs.Answers.{AreAnswers, AreFound};
+ghost use Rattle.ucq_eval.specs.Answers.{AreAnswers, AreTuplesOf};
 ghost use Rattle.ucq_eval.specs.inner.Join.{IsGrownBy};
-ghost use Rattle.ucq_eval.specs.inner.Split.{Follows, IsFoundBy, IsMerged};
+ghost use Rattle.ucq_eval.specs.inner.Split.{GoesThrough, IsFoundBy, IsMerged};
 
 use crate::join::collect;
 use crate::order::in_order_split;
@@ -42,7 +42,7 @@ fn after_member(
     facts: &Facts,
 ) -> Result<Search, NoMemory>
     requires { place < length union.now }
-    ensures { IfOk result (Follows union.now facts.now before place) }
+    ensures { IfOk result (GoesThrough union.now facts.now before place) }
 {
     let mut search = before?;
     collect(
@@ -104,7 +104,8 @@ fn found_by_threads<R: Threads + Sync>(
     union: &Union,
     facts: &Facts,
 ) -> Result<IndexSet<Vec<u32>>, NoMemory>
-    ensures { IfOk result (λ found. AreFound union.now facts.now (map (λ t. t.items) found.keys)) }
+    ensures { IfOk result (λ found.
+        AreTuplesOf union.now facts.now (map (λ t. t.items) found.keys)) }
 {
     (0..union.len())
         .into_par_iter()
@@ -115,7 +116,7 @@ fn found_by_threads<R: Threads + Sync>(
             { begun(alloc) },
             |before: Result<Search, NoMemory>, place: u32| -> Result<Search, NoMemory>
                 requires { place < length union.now }
-                ensures { IfOk result (Follows union.entry.now facts.entry.now before place) }
+                ensures { IfOk result (GoesThrough union.entry.now facts.entry.now before place) }
             { after_member(before, union, place, facts) },
         )
         .map(

@@ -5,9 +5,9 @@ use Rattle.ucq_terms.specs.Syntax.{Atom}
 use Rattle.ucq_facts.specs.declared.postings.Postings.{Postings}
 use Rattle.ucq_facts.specs.declared.keys.Predicate.{Predicate}
 use Rattle.ucq_facts.specs.declared.keys.Position.{Position}
-use Rattle.ucq_facts.specs.Facts.{IsMatch}
+use Rattle.ucq_facts.specs.Facts.{IsMatch, places_from}
 use Rattle.ucq_facts.specs.Postings.{list_at, KeepsLists, IsPushed}
-use Rattle.ucq_facts.specs.Index.{predicate_eq, position_eq, places_from, atoms_at, is_of, is_at, IsAt, IsIndexed, IsPushedBefore}
+use Rattle.ucq_facts.specs.Index.{predicate_eq, position_eq, atoms_at, is_of, is_at, IsAt, IsIndexed, IsPushedBefore}
 use Rattle.ucq_facts.proofs.Matching.{IsMatch-from_test, is_match-true}
 use Rattle.ucq_facts.proofs.Places.{places_from-push, places_from-below, atoms_at-places}
 use Rattle.ucq_facts.proofs.Pushed.{Decides-predicate_eq, list-pushed, list-other}

@@ -5,7 +5,8 @@ use Rattle.std.specs.List.{cons_option}
 use Rattle.std.proofs.lemmas.List.Elements.{All-nil, All-cons, All-head, All-tail}
 use Rattle.std.proofs.lemmas.Option.{slice_get-get_or}
 use Rattle.ucq_terms.specs.Syntax.{Atom}
-use Rattle.ucq_facts.specs.Index.{places_from, atoms_at}
+use Rattle.ucq_facts.specs.Facts.{places_from}
+use Rattle.ucq_facts.specs.Index.{atoms_at}
 
 -- The facts at a place and at further ones.
 pub atoms_at-cons : (facts : List Atom) (place : ℕ) (places : List ℕ) (a : Atom) → slice_get facts place ≡ Some a →

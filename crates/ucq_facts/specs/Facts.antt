@@ -1,5 +1,5 @@
--- Facts that match, and what adding a fact does.
-use Rattle.std.specs.Prelude.{◌≡◌, ℕ, Bool, true, false, ◌&&◌, nat_eq, List, [], ◌∷◌, ◌++◌, length, filter, Contains, slice_get, Option, Some, None, IfSome}
+-- Facts that match, their places, and what adding a fact does.
+use Rattle.std.specs.Prelude.{◌≡◌, ℕ, ◌+◌, Bool, if◌then◌else◌, true, false, ◌&&◌, nat_eq, List, [], ◌∷◌, ◌++◌, length, filter, Contains, slice_get, Option, Some, None, IfSome}
 use Rattle.std.specs.Option.{option_map_or}
 use Rattle.ucq_terms.specs.declared.Term.{Term}
 use Rattle.ucq_terms.specs.Syntax.{Atom}
@@ -23,6 +23,11 @@ is_match name arity bound a = nat_eq a.name name && (nat_eq (length a.terms) ari
 -- the facts that match, in their order
 abbrev pub matching : List Atom → ℕ → ℕ → Option (ℕ × Term) → List Atom
 matching facts name arity bound = filter (is_match name arity bound) facts
+
+-- the places, counted from a number, of the facts that pass the test
+abbrev pub places_from : (Atom → Bool) → ℕ → List Atom → List ℕ
+places_from test n [] = []
+places_from test n (a ∷ facts) = if test a then n ∷ places_from test (n + 1) facts else places_from test (n + 1) facts
 
 -- A fact that was not held stands last now; where it was held, the facts are as before.
 abbrev pub DoesAdd : List Atom → Atom → Bool → List Atom → Type 0

@@ -1,8 +1,8 @@
 -- What an index of facts holds.
-use Rattle.std.specs.Prelude.{◌≡◌, ℕ, ◌+◌, ◌<◌, ◌≤◌, Bool, List, [], ◌∷◌, ◌++◌, length, if◌then◌else◌, slice_get, Some, None}
+use Rattle.std.specs.Prelude.{◌≡◌, ℕ, ◌+◌, ◌<◌, ◌≤◌, Bool, List, [], ◌∷◌, ◌++◌, length, slice_get, Some, None}
 use Rattle.std.specs.List.{filter_map}
 use Rattle.ucq_terms.specs.Syntax.{Atom}
-use Rattle.ucq_facts.specs.Facts.{IsMatch, is_match}
+use Rattle.ucq_facts.specs.Facts.{IsMatch, is_match, places_from}
 use Rattle.ucq_facts.specs.Postings.{list_at}
 use Rattle.ucq_facts.specs.declared.postings.Postings.{Postings}
 use Rattle.ucq_facts.specs.declared.keys.Predicate.{Predicate}
@@ -20,11 +20,6 @@ position_eq = (position_block.ghosts).eq
 -- the predicate of a fact
 abbrev pub predicate_of : Atom → Predicate
 predicate_of a = record { name = a.name; arity = length a.terms }
-
--- the places, counted from a number, of the facts that pass the test
-abbrev pub places_from : (Atom → Bool) → ℕ → List Atom → List ℕ
-places_from test n [] = []
-places_from test n (a ∷ facts) = if test a then n ∷ places_from test (n + 1) facts else places_from test (n + 1) facts
 
 -- whether the fact is of the predicate; and whether it has the term at the place
 abbrev pub is_of : Predicate → Atom → Bool

@@ -4,14 +4,14 @@
 //! with a term at a place where one is given, by a look-up of a hash and one step a fact that it gives.
 #![tactic(auto)]
 
-ghost use Rattle.std.specs.Prelude.{◌≡◌, ◌<◌, ◌≤◌, ◌^◌, ℕ, [], length, IfOk, OnOk, OnErr};
+ghost use Rattle.std.specs.Prelude.{◌≡◌, ◌<◌, ◌≤◌, ◌^◌, ℕ, [], length, slice_get, Some, IfOk, OnOk, OnErr};
 ghost use Rattle.ucq_terms.specs.declared.TheConstants.{FACTS};
 ghost use Rattle.ucq_terms.specs.Syntax.{HasEachOnce};
-ghost use Rattle.ucq_facts.specs.Facts.{DoesAdd, is_match, matching};
+ghost use Rattle.ucq_facts.specs.Facts.{DoesAdd, is_match, matching, places_from};
 ghost use Rattle.ucq_facts.specs.declared.postings.Postings.{Postings as PostingsValue};
 ghost use Rattle.ucq_facts.specs.declared.keys.Position.{Position as PositionValue};
 ghost use Rattle.ucq_facts.specs.Postings.{KeepsLists, IsPushed};
-ghost use Rattle.ucq_facts.specs.Index.{predicate_eq, position_eq, predicate_of, places_from, IsPushedBefore};
+ghost use Rattle.ucq_facts.specs.Index.{predicate_eq, position_eq, predicate_of, IsPushedBefore};
 
 mod keys;
 mod matches;
@@ -90,6 +90,14 @@ impl Facts {
         self.atoms.len() as u32
     }
 
+    /// The fact at a place, where places count from 0 in the order in which facts were added.
+    pub fn atom(&self, place: u32) -> &Atom
+        requires place { place < length self.now }
+        ensures atom { slice_get self.now place ≡ Some result.now }
+    {
+        self.atoms.get_index(place as usize).unwrap()
+    }
+
     /// The facts of this name with this number of terms, in the order in which they were added; where a place and a term
     /// are given, those with that term at that place.
     pub fn matching<'f>(&'f self, name: u32, arity: u32, bound: Option<(u32, Term)>) -> Matches<'f>
@@ -99,8 +107,9 @@ impl Facts {
         Matches::new(self.atoms.as_slice(), places)
     }
 
-    // The places of the facts that match.
-    fn places(&self, name: u32, arity: u32, bound: Option<(u32, Term)>) -> &[u32]
+    /// The places of the facts that `matching` gives, in rising order; places count from 0 in the order in which facts were
+    /// added.
+    pub fn places(&self, name: u32, arity: u32, bound: Option<(u32, Term)>) -> &[u32]
         ensures { result.now ≡ places_from (is_match name arity bound) 0 self.now }
     {
         match bound {

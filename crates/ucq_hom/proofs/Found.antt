@@ -15,7 +15,7 @@ use Rattle.ucq_hom.proofs.Noted.{IsDeeper, IsDeeper-noted, ExtendsAt-less, Exten
 use Rattle.ucq_terms.proofs.Lists.{Contains-first, Contains-rest, Contains-cons_cases, Contains-empty}
 use Rattle.ucq_terms.proofs.Subsets.{OccursIn-at}
 use Rattle.ucq_hom.specs.Bindings.{Bound, Grown, IsMatched}
-use Rattle.ucq_hom.specs.Search.{HasLowTerms, HasLowAtoms, ArePlaces, Sends, IsFound, IsBlocked, IsAtomClash}
+use Rattle.ucq_hom.specs.Search.{HasLowTerms, HasLowAtoms, ArePlaces, Sends, IsMappedFurther, IsBlocked, IsAtomClash}
 use Rattle.ucq_hom.proofs.Trail.{Grown-refl, Grown-trans}
 use Rattle.ucq_hom.proofs.Matched.{Extends-less, IsSome-grown}
 
@@ -42,8 +42,8 @@ Sends-rest : (h : ℕ → Term) (from : List Atom) (place : ℕ) (rest : List �
 Sends-rest h from place rest targets s = record { each = λ x j. s.each x (Contains-rest place rest x j) }
 
 -- nothing to send
-pub IsFound-nothing : (b : Bound) (from : List Atom) (places : List ℕ) (targets : List Atom) → length places ≡ 0 → IsFound b b from places targets
-IsFound-nothing b from places targets z = record {
+pub IsMappedFurther-nothing : (b : Bound) (from : List Atom) (places : List ℕ) (targets : List Atom) → length places ≡ 0 → IsMappedFurther b b from places targets
+IsMappedFurther-nothing b from places targets z = record {
   grown = Grown-refl b;
   sent = λ h e. record { each = λ place i. absurd (let l = i.1 in omega arith) };
   bound = λ v place i j. absurd (let l = i.1 in omega arith);
@@ -51,10 +51,10 @@ IsFound-nothing b from places targets z = record {
 }
 
 -- an atom matched onto a target, and then the rest
-pub IsFound-more : (a b c : Bound) (from : List Atom) (place : ℕ) (rest : List ℕ) (targets : List Atom) (target : Atom) → place < length from →
-    Contains targets target → (atom_at from place).name ≡ target.name → IsMatched a b (atom_at from place).terms target.terms → IsFound b c from rest targets →
-    IsFound a c from (place ∷ rest) targets
-IsFound-more a b c from place rest targets target l t name m f = record {
+pub IsMappedFurther-more : (a b c : Bound) (from : List Atom) (place : ℕ) (rest : List ℕ) (targets : List Atom) (target : Atom) → place < length from →
+    Contains targets target → (atom_at from place).name ≡ target.name → IsMatched a b (atom_at from place).terms target.terms → IsMappedFurther b c from rest targets →
+    IsMappedFurther a c from (place ∷ rest) targets
+IsMappedFurther-more a b c from place rest targets target l t name m f = record {
   grown = Grown-trans a b c m.grown f.grown;
   sent = λ h e. record {
     each = λ p i. elim (Contains-cons_cases place rest p i) [

@@ -14,7 +14,7 @@ use Rattle.ucq_terms.proofs.Places.{place_of}
 use Rattle.ucq_terms.proofs.Subsets.{OccursIn-atom}
 use Rattle.ucq_hom.specs.Space.{IsClear, or_itself, mapping, GivesHomomorphism}
 use Rattle.ucq_hom.specs.Bindings.{Bound, Extends, IsMatched, IsClash}
-use Rattle.ucq_hom.specs.Search.{HasLowTerms, HasLowAtoms, ArePlaces, IsOrder, Sends, IsFound, IsBlocked}
+use Rattle.ucq_hom.specs.Search.{HasLowTerms, HasLowAtoms, ArePlaces, IsOrder, Sends, IsMappedFurther, IsBlocked}
 use Rattle.ucq_hom.proofs.Trail.{image_none}
 use Rattle.ucq_hom.proofs.Noted.{ExtendsAt-all}
 use Rattle.ucq_hom.proofs.Matched.{Extends-less, IsSome-grown}
@@ -36,7 +36,7 @@ Extends-mapping b = record { agrees = λ v t e. ap (or_itself v) e }
 
 -- what was found is a homomorphism
 pub GivesHomomorphism-found : (a b c : Bound) (q : Query) (order : List ℕ) (targets : List Atom) (tuple : List Term) → IsClear a.images →
-    IsMatched a b q.answers tuple → IsOrder q.atoms order → IsFound b c q.atoms order targets → GivesHomomorphism c.images q targets tuple
+    IsMatched a b q.answers tuple → IsOrder q.atoms order → IsMappedFurther b c q.atoms order targets → GivesHomomorphism c.images q targets tuple
 GivesHomomorphism-found a b c q order targets tuple clear m o f =
     let e = Extends-mapping c in
     record {

@@ -31,7 +31,7 @@ pub record Sends (h : ℕ → Term) (from : List Atom) (places : List ℕ) (targ
 
 -- The bindings have grown by the variables of the atoms at these places, so that the maps that agree with them send the atoms
 -- to some of the targets.
-pub record IsFound (before after : Bound) (from : List Atom) (places : List ℕ) (targets : List Atom) : Type 0 where
+pub record IsMappedFurther (before after : Bound) (from : List Atom) (places : List ℕ) (targets : List Atom) : Type 0 where
   pub grown : Grown before after
   pub sent : (h : ℕ → Term) → Extends h after → Sends h from places targets
   pub bound : (v place : ℕ) → Contains places place → Contains (atom_at from place).terms (Variable v) → IsSome (image after.images v)

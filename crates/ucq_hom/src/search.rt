@@ -2,7 +2,7 @@
 ghost use Rattle.std.specs.Prelude.{◌≡◌, ◌≤◌, ◌+◌, ℕ, length, None, Some, IsSome, remove};
 ghost use Rattle.ucq_terms.specs.declared.TheConstants.{ATOMS, VARIABLES};
 ghost use Rattle.ucq_hom.specs.Levels.{KeepsLevels};
-ghost use Rattle.ucq_hom.specs.Search.{HasLowAtoms, ArePlaces, IsFound, IsBlocked};
+ghost use Rattle.ucq_hom.specs.Search.{HasLowAtoms, ArePlaces, IsMappedFurther, IsBlocked};
 
 use crate::bindings::Bindings;
 use crate::levels::{binders, has_level, note_since, union};
@@ -27,7 +27,7 @@ pub fn extend(
     requires room { length levels.old ≡ VARIABLES }
     requires deep { level + length places.now ≤ ATOMS }
     ensures found { result ≡ None →
-        IsFound bindings.old bindings.new from.now places.now (remove to.now skip) }
+        IsMappedFurther bindings.old bindings.new from.now places.now (remove to.now skip) }
     ensures blocked { (set : ℕ) →
         result ≡ Some set →
         IsBlocked bindings.old levels.old set from.now places.now (remove to.now skip) }

@@ -18,10 +18,10 @@ use Rattle.ucq_classes.specs.Classes.{Labels, IsClassed}
 use Rattle.ucq_classes.proofs.Numbers.{place_below, first_next, copy_before, heads_numbered}
 use Rattle.ucq_join.specs.Walk.{Walk}
 use Rattle.ucq_join.specs.inner.Search.{IsWalking}
-use Rattle.ucq_join.specs.inner.Copies.{IsWidthOf, IsReadyFor, HasWidth, AreNumbered}
+use Rattle.ucq_join.specs.inner.Copies.{IsWidthOf, IsReadyFor, HasCopyWidth, AreNumbered}
 
 -- Copies of one width have their first numbers at equal distances.
-pub first_even : (n : Numbers) (width : ℕ) → HasWidth n width → (k : ℕ) → k ≤ length n.widths → first n k ≡ length n.constants + n.variables + k * width
+pub first_even : (n : Numbers) (width : ℕ) → HasCopyWidth n width → (k : ℕ) → k ≤ length n.widths → first n k ≡ length n.constants + n.variables + k * width
 first_even n width h zero l = omega arith
 first_even n width h (suc k) l =
     let m : k < length n.widths = omega arith in
@@ -33,7 +33,7 @@ first_even n width h (suc k) l =
     omega arith
 
 -- and there is room for one more among so many
-pub size_more : (n : Numbers) (width count : ℕ) → HasWidth n width → length n.widths < count →
+pub size_more : (n : Numbers) (width count : ℕ) → HasCopyWidth n width → length n.widths < count →
     size n + width ≤ length n.constants + n.variables + count * width
 size_more n width count h l =
     let k = length n.widths in
@@ -44,11 +44,11 @@ size_more n width count h l =
     let d : suc k * width ≡ k * width + width = suc-mul k width in
     omega arith
 
-pub HasWidth-none : (n : Numbers) (width : ℕ) → n.widths ≡ [] → HasWidth n width
-HasWidth-none n width e = record { each = λ copy l. let z : length n.widths ≡ 0 = ap length e in absurd (omega arith) }
+pub HasCopyWidth-none : (n : Numbers) (width : ℕ) → n.widths ≡ [] → HasCopyWidth n width
+HasCopyWidth-none n width e = record { each = λ copy l. let z : length n.widths ≡ 0 = ap length e in absurd (omega arith) }
 
-pub HasWidth-push : (n m : Numbers) (width : ℕ) → HasWidth n width → m ≡ record n { widths = n.widths ++ width ∷ [] } → HasWidth m width
-HasWidth-push n m width h e = subst (λ (x : Numbers). HasWidth x width) (sym e) (record { each = each })
+pub HasCopyWidth-push : (n m : Numbers) (width : ℕ) → HasCopyWidth n width → m ≡ record n { widths = n.widths ++ width ∷ [] } → HasCopyWidth m width
+HasCopyWidth-push n m width h e = subst (λ (x : Numbers). HasCopyWidth x width) (sym e) (record { each = each })
   where
     each : (copy : ℕ) → copy < length (n.widths ++ width ∷ []) → get_or (n.widths ++ width ∷ []) copy 0 ≡ width
     each copy l =
@@ -80,7 +80,7 @@ walking_with w n m width e h = record {
   present = h.present;
 }
 
-pub numbered_copies : (q : Query) (rule : Rule) (n : Numbers) (width : ℕ) → IsReadyFor q rule n → IsWidthOf rule width → HasWidth n width → AreNumbered q rule n
+pub numbered_copies : (q : Query) (rule : Rule) (n : Numbers) (width : ℕ) → IsReadyFor q rule n → IsWidthOf rule width → HasCopyWidth n width → AreNumbered q rule n
 numbered_copies q rule n width h w e = record {
   query = h.query;
   heads = λ copy l. heads_numbered n copy rule h.constants (λ v o. subst (λ (k : ℕ). v < k) (sym (e.each copy l)) (w.heads v o));

@@ -3,7 +3,7 @@ use Rattle.std.proofs.Common.{◌≡◌, ℕ, List, [], ◌∷◌, ◌++◌, len
 use Rattle.std.proofs.lemmas.List.Elements.{Contains-append_left, Contains-push, Contains-push_cases}
 use Rattle.ucq_terms.proofs.Lists.{Contains-empty}
 use Rattle.ucq_join.specs.Names.{Named}
-use Rattle.ucq_join.specs.Walk.{Walk, ComesAfter, IsJoinOf, IsLast, GoesOn, HasGiven, members_at}
+use Rattle.ucq_join.specs.Walk.{Walk, ComesAfter, IsJoinOf, IsLast, MovesTo, HasGiven, members_at}
 use Rattle.ucq_join.proofs.Orders.{ComesAfter-trans}
 use Rattle.ucq_join.proofs.Sets.{AllPairs-push}
 
@@ -24,7 +24,7 @@ HasGiven-start w e = record {
 }
 
 -- one set more
-pub HasGiven-next : (before after : Walk) (j : Named) (given : List (List ℕ)) → GoesOn before after j → HasGiven before given → HasGiven after (given ++ j.members ∷ [])
+pub HasGiven-next : (before after : Walk) (j : Named) (given : List (List ℕ)) → MovesTo before after j → HasGiven before given → HasGiven after (given ++ j.members ∷ [])
 HasGiven-next before after j given g h =
     subst (λ (w : Walk). HasGiven w (given ++ j.members ∷ [])) (sym g.stands) (record {
       joins = λ xs i. elim (Contains-push_cases given j.members xs i) [ inl c ↦ h.joins xs c | inr e ↦ subst (IsJoinOf before) e g.next.join ];

@@ -4,7 +4,7 @@ use Rattle.std.proofs.Math.Seq.{get_or-append_seam}
 use Rattle.std.proofs.lemmas.List.{append_assoc, length-append, length-map}
 use Rattle.std.proofs.lemmas.List.Elements.{Contains-append_left, Contains-push, Contains-push_cases}
 use Rattle.ucq_terms.proofs.Lists.{Contains-empty}
-use Rattle.ucq_join.specs.Walk.{Walk, ComesAfter, IsJoinOf, ArePieces, IsNext, IsLast, GoesOn, piece_member, members_at, links_at}
+use Rattle.ucq_join.specs.Walk.{Walk, ComesAfter, IsJoinOf, ArePieces, IsNext, IsLast, MovesTo, piece_member, members_at, links_at}
 use Rattle.ucq_join.specs.inner.Search.{start_of, IsStart, IsFirstFrom, IsAdvanced}
 use Rattle.ucq_join.specs.Names.{Named, TellsNames}
 use Rattle.ucq_join.specs.inner.Naming.{IsNamed}
@@ -172,9 +172,9 @@ found_last w members true e a = cc
 found_last w members false e a = a
 
 -- the next set with its names
-pub GoesOn-named : (w : Walk) (c : Labels) (members : List ℕ) (j : Named) → IsReadyFor w.query w.rule c.numbers → IsWidthOf w.rule j.width → IsNext w members →
-    IsNamed c members j → IsClassed (links_at w.query w.rule w.pieces members) c → GoesOn w (record w { present = members }) j
-GoesOn-named w c members j h wide n named classed = record {
+pub MovesTo-named : (w : Walk) (c : Labels) (members : List ℕ) (j : Named) → IsReadyFor w.query w.rule c.numbers → IsWidthOf w.rule j.width → IsNext w members →
+    IsNamed c members j → IsClassed (links_at w.query w.rule w.pieces members) c → MovesTo w (record w { present = members }) j
+MovesTo-named w c members j h wide n named classed = record {
   next = subst (IsNext w) (sym named.members) n;
   names = subst (λ (xs : List ℕ). TellsNames w.query w.rule (members_at w.pieces xs) j) (sym named.members)
       (TellsNames-named w.query w.rule c members j (members_at w.pieces members) h wide (length-map members (piece_member w.pieces)) named classed

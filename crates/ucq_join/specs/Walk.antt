@@ -58,7 +58,7 @@ pub record IsLast (w : Walk) : Type 0 where
   pub none : (other : List ℕ) → IsJoinOf w other → ComesAfter w.present other → ⊥
 
 -- the walk goes on to the set of these names
-pub record GoesOn (before after : Walk) (j : Named) : Type 0 where
+pub record MovesTo (before after : Walk) (j : Named) : Type 0 where
   pub next : IsNext before j.members
   pub names : TellsNames before.query before.rule (members_at before.pieces j.members) j
   pub stands : after ≡ record before { present = j.members }
@@ -66,7 +66,7 @@ pub record GoesOn (before after : Walk) (j : Named) : Type 0 where
 -- one step of a walk, which stands where it stood at the end and after want of memory
 abbrev pub Advances : Walk → Walk → Result (Option Named) NoMemory → Type 0
 Advances before after (Ok None) = IsLast before × (after ≡ before)
-Advances before after (Ok (Some j)) = GoesOn before after j
+Advances before after (Ok (Some j)) = MovesTo before after j
 Advances before after (Err e) = after ≡ before
 
 -- the walk has given these sets, in this order: just the ones that don't come after the present one, each once

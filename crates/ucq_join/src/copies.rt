@@ -1,7 +1,7 @@
 //! The terms of a query and of copies of one rule, with numbers.
 ghost use Rattle.std.specs.Prelude.{◌≡◌, ◌<◌, ◌≤◌, ◌+◌, ◌*◌, ◌^◌, length, IfOk, OnOk};
 ghost use Rattle.ucq_classes.specs.Numbers.{Numbers};
-ghost use Rattle.ucq_join.specs.inner.Copies.{IsWidthOf, IsReadyFor, HasWidth};
+ghost use Rattle.ucq_join.specs.inner.Copies.{IsWidthOf, IsReadyFor, HasCopyWidth};
 
 use std::alloc::Global;
 use ucq_classes::{Numbering, variable_bound};
@@ -28,7 +28,7 @@ pub fn set_copies(numbering: &mut Numbering, count: u32, width: u32) -> Result<(
     requires { length numbering.old.constants + numbering.old.variables + count * width < 2 ^ 32 }
     ensures rest { numbering.new ≡ record numbering.old { widths = numbering.new.widths } }
     ensures count { OnOk result (length numbering.new.widths ≡ count) }
-    ensures width { OnOk result (HasWidth numbering.new width) }
+    ensures width { OnOk result (HasCopyWidth numbering.new width) }
 {
     numbering.clear_copies();
     for _copy in 0..count {

@@ -3,7 +3,7 @@ ghost use Rattle.std.specs.Prelude.{◌≡◌, ◌<◌, ◌≤◌, ◌^◌, leng
 ghost use Rattle.ucq_terms.specs.Unifier.{of_query, of_copy};
 ghost use Rattle.ucq_join.specs.Names.{name_of};
 ghost use Rattle.ucq_classes.specs.Numbers.{size};
-ghost use Rattle.ucq_join.specs.inner.Copies.{HasWidth};
+ghost use Rattle.ucq_join.specs.inner.Copies.{HasCopyWidth};
 ghost use Rattle.ucq_join.specs.inner.Naming.{name_by, AreNames, IsNamed};
 
 use std::alloc::Global;
@@ -100,7 +100,7 @@ pub fn named(
     width: u32,
 ) -> Result<Joined, NoMemory>
     requires few { vec_len members.now ≤ 129 }
-    requires width { HasWidth classes.now.numbers width }
+    requires width { HasCopyWidth classes.now.numbers width }
     requires within { vec_len members.now ≤ length classes.now.numbers.widths }
     ensures named { IfOk result (λ j. IsNamed classes.now members.now.items j) }
     ensures width { IfOk result (λ j. j.width ≡ width) }

@@ -11,13 +11,13 @@ pub record FailingSink : Type 0 where
   pub taken : List ℕ
 
 -- A push fails where its number is listed or the piece is longer than the room that is left.
-abbrev pub IsRefused : FailingSink → List ℕ → Type 0
-IsRefused sink piece = Contains sink.failing sink.calls ⊎ (ROOM - length sink.taken < length piece)
+abbrev pub RefusesPush : FailingSink → List ℕ → Type 0
+RefusesPush sink piece = Contains sink.failing sink.calls ⊎ (ROOM - length sink.taken < length piece)
 
 -- What a push on a failing sink answers: a fault exactly where it is refused, and else the piece is taken whole.
 abbrev pub Pushes : {E : Type 0} → FailingSink → List ℕ → Result ℕ E → Type 0
-Pushes sink piece (Ok n) = ¬ (IsRefused sink piece) × (n ≡ length piece)
-Pushes sink piece (Err e) = IsRefused sink piece
+Pushes sink piece (Ok n) = ¬ (RefusesPush sink piece) × (n ≡ length piece)
+Pushes sink piece (Err e) = RefusesPush sink piece
 
 -- the bytes that a sink has taken after a push
 abbrev pub taken_after : {E : Type 0} → Result ℕ E → List ℕ → List ℕ → List ℕ

@@ -1,6 +1,6 @@
 ghost use Rattle.std.specs.Prelude.{◌≡◌, ◌≤◌, ◌<◌, ℕ, List, Option, IfOk, IfSome, length};
 ghost use Rattle.ucq_outside.specs.Causes.{HasCause};
-ghost use Rattle.ucq_outside.specs.inner.Files.{IsPiece, Takes};
+ghost use Rattle.ucq_outside.specs.inner.Files.{IsPiece, TakesPiece};
 
 use std::alloc::{AllocError, AllocFailed};
 
@@ -54,13 +54,13 @@ pub trait Sink {
     /// How often the sink has failed. The count never falls, and may stand still at the last value of u64.
     ghost faults: { Self → ℕ };
 
-    /// Takes bytes from the start of `piece`, and answers how many: at least 1 of a nonempty piece, and 0 of an empty one.
+    /// TakesPiece bytes from the start of `piece`, and answers how many: at least 1 of a nonempty piece, and 0 of an empty one.
     ///
     /// `Failed` leaves what was taken, and comes only where the sink's count of faults rose in this call.
     fn push(&mut self, piece: &[u8]) -> Result<usize, Failed>
         ensures bound { IfOk result (λ n. n ≤ length piece.now) }
         ensures some { IfOk result (λ n. 0 < length piece.now → 0 < n) }
-        ensures taken { Takes (taken self.old) (taken self.new) piece.now result }
+        ensures taken { TakesPiece (taken self.old) (taken self.new) piece.now result }
         ensures cause { HasCause (faults self.old) (faults self.new) result };
 }
 

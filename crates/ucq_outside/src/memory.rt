@@ -1,6 +1,6 @@
 ghost use Rattle.std.specs.Prelude.{◌≡◌, ◌≤◌, ◌<◌, ℕ, List, [], Option, Ok, Some, IfOk, length, vec_len, vec_capacity, ◌+◌, ◌++◌};
 ghost use Rattle.ucq_outside.specs.Causes.{HasCause};
-ghost use Rattle.ucq_outside.specs.inner.Files.{Takes};
+ghost use Rattle.ucq_outside.specs.inner.Files.{TakesPiece};
 ghost use Rattle.ucq_outside.specs.Sinks.{Pushes, counted_after, sink_after, told};
 
 use crate::files::{Failed, NoMemoryOutside, Sink};
@@ -79,7 +79,7 @@ impl Sink for MemorySink {
 
     ghost faults = { λ s. s.faults };
 
-    /// Takes a piece whole.
+    /// TakesPiece a piece whole.
     fn push(&mut self, piece: &[u8]) -> Result<usize, Failed>
         ensures answer { Pushes self.old piece.now result }
         ensures after { self.new ≡ sink_after result piece.now self.old }
@@ -87,7 +87,7 @@ impl Sink for MemorySink {
         // What each sink ensures.
         ensures bound { IfOk result (λ n. n ≤ length piece.now) }
         ensures some { IfOk result (λ n. 0 < length piece.now → 0 < n) }
-        ensures taken { Takes (Some self.old.taken) (Some self.new.taken) piece.now result }
+        ensures taken { TakesPiece (Some self.old.taken) (Some self.new.taken) piece.now result }
         ensures cause { HasCause self.old.faults self.new.faults result }
     {
         let number = self.calls;
@@ -147,7 +147,7 @@ impl Sink for SureSink {
 
     ghost faults = { λ s. 0 };
 
-    /// Takes a piece whole.
+    /// TakesPiece a piece whole.
     fn push(&mut self, piece: &[u8]) -> Result<usize, Failed>
         ensures answer { result ≡ Ok (length piece.now) }
         ensures after { self.new ≡ counted_after piece.now self.old }
@@ -155,7 +155,7 @@ impl Sink for SureSink {
         // What each sink ensures.
         ensures bound { IfOk result (λ n. n ≤ length piece.now) }
         ensures some { IfOk result (λ n. 0 < length piece.now → 0 < n) }
-        ensures taken { Takes (told self.old) (told self.new) piece.now result }
+        ensures taken { TakesPiece (told self.old) (told self.new) piece.now result }
         ensures cause { HasCause 0 0 result }
     {
         if self.lost > 0 || ROOM - self.bytes.len() < piece.len() {

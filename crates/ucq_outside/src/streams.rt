@@ -1,7 +1,7 @@
 ghost use Rattle.std.specs.Prelude.{◌≡◌, ◌≤◌, ◌<◌, ℕ, List, Option, IfOk, IfSome, length, true, false};
 ghost use Rattle.ucq_outside.specs.Causes.{HasCause};
 ghost use Rattle.ucq_outside.specs.Edges.{files_after, stream_after, untold};
-ghost use Rattle.ucq_outside.specs.inner.Files.{IsPiece, Takes};
+ghost use Rattle.ucq_outside.specs.inner.Files.{IsPiece, TakesPiece};
 
 use crate::files::{Failed, Shelf, Sink};
 use std::io::{Read, Seek, SeekFrom, Stderr, Write};
@@ -219,7 +219,7 @@ impl<R: Print + StandardError> Sink for StreamSink<'_, R> {
         // What each sink ensures.
         ensures bound { IfOk result (λ n. n ≤ length piece.now) }
         ensures some { IfOk result (λ n. 0 < length piece.now → 0 < n) }
-        ensures taken { Takes untold untold piece.now result }
+        ensures taken { TakesPiece untold untold piece.now result }
         ensures cause { HasCause self.old.faults self.new.faults result }
     {
         match write_to(self.rt, self.is_error, piece) {

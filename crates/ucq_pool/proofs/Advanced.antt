@@ -5,14 +5,14 @@ use Rattle.ucq_store.specs.declared.Cut.{Cut}
 use Rattle.ucq_store.specs.Store.{Store, IsCut}
 use Rattle.ucq_store.specs.Changes.{with_claim, with_cut}
 use Rattle.ucq_store.specs.Calls.{HasNoOpen, IsFirstOpen, DoesClaim, DoesRaise}
-use Rattle.ucq_pool.specs.inner.Progress.{work_left, IsAtRest, IsExplored, GoesOn, IsSameTask, DoesAdvance}
+use Rattle.ucq_pool.specs.inner.Progress.{work_left, IsAtRest, IsExplored, IsNearerEnd, IsSameTask, DoesAdvance}
 use Rattle.ucq_pool.proofs.Work.{IsClaimedAlone, claimed_alone, taken_alone, done_at_rest}
 use Rattle.ucq_pool.proofs.Rising.{finished, risen}
 use Rattle.ucq_pool.proofs.Explored.{not_cut}
 
 -- the store is at rest again or cut, and its task is the same
 pub record IsAdvanced (s after : Store) : Type 0 where
-  pub ends : GoesOn s after ⊎ IsCut after
+  pub ends : IsNearerEnd s after ⊎ IsCut after
   pub task : IsSameTask s after
 
 -- a claimed row was explored
@@ -33,7 +33,7 @@ claim_advances s claimed after row rest first same e =
     ]
 
 -- the store's cut tells which
-pub cut_tells : {T : Type 0} (s after : Store) (cut : Option T) (read : T → Cut) (more : Bool) → GoesOn s after ⊎ IsCut after →
+pub cut_tells : {T : Type 0} (s after : Store) (cut : Option T) (read : T → Cut) (more : Bool) → IsNearerEnd s after ⊎ IsCut after →
     MatchOption cut (after.cut ≡ None) (λ c. after.cut ≡ Some (read c)) → is_some cut ≡ not more → DoesAdvance s more after
 cut_tells s after None read true (inl on) is e = on
 cut_tells s after None read true (inr cut) is e = absurd (not_cut after is cut)

@@ -8,7 +8,7 @@ use Rattle.ucq_store.specs.Store.{Store, mark_at, IsRow, state_of, IsInWork, IsF
 use Rattle.ucq_store.specs.Changes.{raised}
 use Rattle.ucq_store.specs.Calls.{HasNoOpen, DoesRaise}
 use Rattle.ucq_store.proofs.Live.{live_is_row}
-use Rattle.ucq_pool.specs.inner.Progress.{work_of, work_of_marks, work_left, IsAtRest, GoesOn}
+use Rattle.ucq_pool.specs.inner.Progress.{work_of, work_of_marks, work_left, IsAtRest, IsNearerEnd}
 use Rattle.ucq_pool.proofs.Sums.{sum_less}
 use Rattle.ucq_pool.proofs.Work.{mark_work, no_mark}
 
@@ -51,7 +51,7 @@ module _ (s : Store) (rest : IsAtRest s) where
       })
 
   -- a level comes, and a live row no longer waits for it
-  pub risen : (after : Store) → DoesRaise s true after → GoesOn s after
+  pub risen : (after : Store) → DoesRaise s true after → IsNearerEnd s after
   risen after up =
       let (can, (marks, is, same)) = up in
       let (row, live, waits) = can.one_waits in
@@ -66,7 +66,7 @@ module _ (s : Store) (rest : IsAtRest s) where
       let less : work_of_marks marks < work_of_marks s.marks =
       sum_less mark_work no_mark s.marks marks row is.count no_more (subst (λ (n : ℕ). row < n) (sym rest.marked) row_of) (omega (arith, one, two)) in
       let few : s.claims + work_left s < 2 ^ 64 - 1 = rest.few_claims in
-      subst (GoesOn s) (sym same) (record {
+      subst (IsNearerEnd s) (sym same) (record {
         at_rest = record {
           uncut = rest.uncut;
           marked = is.count ∙ rest.marked;

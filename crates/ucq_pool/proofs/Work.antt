@@ -12,7 +12,7 @@ use Rattle.ucq_store.specs.declared.RowState.TheVariants.{Waiting, Claimed, Done
 use Rattle.ucq_store.specs.Store.{Store, mark_at, IsRow, state_of, depth_of}
 use Rattle.ucq_store.specs.Changes.{with_row, with_state, with_claim, Adds, Takes}
 use Rattle.ucq_store.specs.Calls.{IsFirstOpen}
-use Rattle.ucq_pool.specs.inner.Progress.{work_of, work_of_marks, work_left, IsAtRest, GoesOn, IsSameTask}
+use Rattle.ucq_pool.specs.inner.Progress.{work_of, work_of_marks, work_left, IsAtRest, IsNearerEnd, IsSameTask}
 
 abbrev pub mark_work : Mark → ℕ
 mark_work m = work_of m.state
@@ -114,7 +114,7 @@ taken_alone start s after row (core ∷ cores) (Some place ∷ places) takes was
     taken_alone start (with_row s rows) after row cores places rest (added_alone start s row core rows adds was)
 
 -- the row is done
-pub done_at_rest : (start s : Store) (row : ℕ) → IsAtRest start → IsClaimedAlone start s row → GoesOn start (with_state s row Done)
+pub done_at_rest : (start s : Store) (row : ℕ) → IsAtRest start → IsClaimedAlone start s row → IsNearerEnd start (with_state s row Done)
 done_at_rest start s row rest was =
     let work = work_changes s row Done was.marked was.row_of in
     let idle : work_of (state_of s row) ≡ 0 = was.idle in

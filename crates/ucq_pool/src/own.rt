@@ -5,7 +5,7 @@ ghost use Rattle.ucq_log.specs.Log.{IsEntryOf};
 ghost use Rattle.ucq_store.specs.Candidates.{HoldsCore};
 ghost use Rattle.ucq_terms.specs.Homomorphism.{Covers};
 
-use crate::rewritings::{Kept, Propose};
+use crate::rewritings::{Proposals, Propose};
 use std::alloc::Global;
 use std::marker::Model;
 use std::sync::Wait;
@@ -101,16 +101,16 @@ impl<'l> Propose<'l> for Own<'l> {
         &self,
         space: &mut HomSpace,
         core: Query,
-        kept: &mut Kept,
+        proposals: &mut Proposals,
     ) -> Result<Candidate<'l>, NoMemory> {
         match self.seen(space, &core) {
             Some((row, by)) => {
-                kept.copies.push(None)?;
-                kept.seen = kept.seen.saturating_add(1);
+                proposals.copies.push(None)?;
+                proposals.seen = proposals.seen.saturating_add(1);
                 Ok(Candidate::known(core, row, by))
             }
             None => {
-                kept.copies.push(core.copy().ok())?;
+                proposals.copies.push(core.copy().ok())?;
                 Ok(Candidate::plain(core))
             }
         }

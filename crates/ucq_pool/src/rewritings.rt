@@ -32,7 +32,7 @@ impl From<NoMemory> for Fault {
 /// What is kept of the cores of a report: a copy, by the place of its candidate, or none; and how many candidates have
 /// evidence.
 #[derive(Drop)]
-pub(crate) struct Kept {
+pub(crate) struct Proposals {
     pub copies: Vec<Option<Query>>,
     pub seen: u64,
 }
@@ -44,7 +44,7 @@ pub(crate) trait Propose<'q> {
         &self,
         space: &mut HomSpace,
         core: Query,
-        kept: &mut Kept,
+        proposals: &mut Proposals,
     ) -> Result<Candidate<'q>, NoMemory>
         requires clear { IsClear space.old }
         ensures core { IfOk result (λ c. HoldsCore c core) }
@@ -60,7 +60,7 @@ impl<'q> Propose<'q> for Plainly {
         &self,
         _space: &mut HomSpace,
         core: Query,
-        _kept: &mut Kept,
+        _proposals: &mut Proposals,
     ) -> Result<Candidate<'q>, NoMemory> {
         Ok(Candidate::plain(core))
     }
@@ -73,21 +73,21 @@ pub(crate) fn report_on<'p, 'q, P: Propose<'q>>(
     problem: &'q IndexedProblem<'p>,
     query: Query,
     proposer: &P,
-) -> Result<(Report<'q>, Kept), NoMemory>
+) -> Result<(Report<'q>, Proposals), NoMemory>
     requires clear { IsClear space.old }
     ensures report { IfOk result (λ r. IsUnspentOn problem.now query r.0) }
     ensures clear { IsClear space.new }
 {
-    let mut kept = Kept {
+    let mut proposals = Proposals {
         copies: Vec::new(alloc),
         seen: 0,
     };
-    let report = match rewrite(alloc, space, problem, &query, proposer, &mut kept) {
+    let report = match rewrite(alloc, space, problem, &query, proposer, &mut proposals) {
         Ok(candidates) => Report::whole(problem.problem(), query, candidates),
         Err(Fault::Wide { rule, count }) => Report::wide(problem.problem(), query, rule, count),
         Err(Fault::Memory) => return Err(NoMemory),
     };
-    Ok((report, kept))
+    Ok((report, proposals))
 }
 
 /// Candidates of all rewritings of the query, in order of the rules. Only rules that share a name with the query are tried.
@@ -97,7 +97,7 @@ fn rewrite<'q, P: Propose<'q>>(
     problem: &IndexedProblem,
     query: &Query,
     proposer: &P,
-    kept: &mut Kept,
+    proposals: &mut Proposals,
 ) -> Result<Vec<Candidate<'q>>, Fault>
     requires clear { IsClear space.old }
     ensures found { DoesRewrite problem.now.rules query.now result }
@@ -114,7 +114,7 @@ fn rewrite<'q, P: Propose<'q>>(
             place,
             query,
             proposer,
-            kept,
+            proposals,
             &mut candidates,
         )?;
     }
@@ -130,7 +130,7 @@ fn rewrite_with<'q, P: Propose<'q>>(
     place: usize,
     query: &Query,
     proposer: &P,
-    kept: &mut Kept,
+    proposals: &mut Proposals,
     candidates: &mut Vec<Candidate<'q>>,
 ) -> Result<(), Fault>
     requires place { place < length numbers.now }
@@ -142,7 +142,7 @@ fn rewrite_with<'q, P: Propose<'q>>(
 {
     let rule = numbers[place];
     match step(alloc, space, query, &rules[rule as usize]) {
-        Ok(steps) => Ok(propose_all(space, steps.cores, proposer, kept, candidates)?),
+        Ok(steps) => Ok(propose_all(space, steps.cores, proposer, proposals, candidates)?),
         Err(StepFault::Wide { count }) => Err(Fault::Wide { rule, count }),
         Err(StepFault::Memory) => Err(Fault::Memory),
     }
@@ -153,7 +153,7 @@ fn propose_all<'q, P: Propose<'q>>(
     space: &mut HomSpace,
     cores: Vec<Query>,
     proposer: &P,
-    kept: &mut Kept,
+    proposals: &mut Proposals,
     candidates: &mut Vec<Candidate<'q>>,
 ) -> Result<(), NoMemory>
     requires clear { IsClear space.old }
@@ -163,7 +163,7 @@ fn propose_all<'q, P: Propose<'q>>(
 {
     candidates.reserve(cores.len())?;
     for core in cores {
-        let candidate = proposer.propose(space, core, kept)?;
+        let candidate = proposer.propose(space, core, proposals)?;
         candidates.push(candidate)?;
     }
     Ok(())

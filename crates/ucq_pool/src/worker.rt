@@ -5,7 +5,7 @@ ghost use Rattle.ucq_pool.specs.inner.Shared.{IsAtWork};
 
 use crate::indexed::IndexedProblem;
 use crate::own::Own;
-use crate::rewritings::{Kept, report_on};
+use crate::rewritings::{Proposals, report_on};
 use crate::task::{Task, TaskStore};
 use std::alloc::Global;
 use std::sync::{Mutex, Wait};
@@ -122,11 +122,11 @@ impl<'l> Worker<'l> {
             Ok(query) => report_on(alloc, &mut self.space, round.problem, query, &self.own),
             Err(NoMemory) => Err(NoMemory),
         };
-        let Ok((mut report, kept)) = found else {
+        let Ok((mut report, proposals)) = found else {
             round.store.lock(rt).release(claim);
             return Err(NoMemory);
         };
-        let Kept { copies, seen } = kept;
+        let Proposals { copies, seen } = proposals;
         self.seen = self.seen.saturating_add(seen);
         round.gate.pass(self.number, claim.row);
         let published = {

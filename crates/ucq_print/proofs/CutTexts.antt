@@ -8,14 +8,14 @@ use Rattle.ucq_terms.specs.Syntax.{Query}
 use Rattle.ucq_terms.specs.Numbering.{numbered_query}
 use Rattle.ucq_antichain.specs.declared.Row.{Row}
 use Rattle.ucq_print.specs.Texts.{line_feed, life_text, query_text, query_line, row_line, row_lines, lines_text, left_line, rows_cut_line, rows_cut_text, wide_cut_line, wide_cut_text, finished_text}
-use Rattle.ucq_print.specs.Laws.{IsLine, IsPrintable, AreReadable, ArePrintableRows, numbered_row, BeginsARow}
+use Rattle.ucq_print.specs.Laws.{IsLine, IsPrintable, AreReadableNames, ArePrintableRows, numbered_row, BeginsARow}
 use Rattle.ucq_print.proofs.Spelled.{AreOne, decimals_apart, heads_differ, tails}
 use Rattle.ucq_print.proofs.LineFeeds.{IsSingle, is_told, single_both, single_run}
 use Rattle.ucq_print.proofs.ToldLines.{IsBeginning, ended_lines, lines_tell}
 use Rattle.ucq_print.proofs.ReadBack.{numbered_apart}
 use Rattle.ucq_print.proofs.Unions.{printed_query, query_is_single, query_told}
 
-module _ (names : List (List ℕ)) (readable : AreReadable names) where
+module _ (names : List (List ℕ)) (readable : AreReadableNames names) where
   abbrev rows_text : List Row → List ℕ
   rows_text rows = lines_text (row_lines names rows)
 

@@ -7,7 +7,7 @@ use Rattle.ucq_terms.specs.Syntax.{Query}
 use Rattle.ucq_antichain.specs.declared.Row.{Row}
 use Rattle.ucq_lexer.specs.Bytes.{is_digit}
 use Rattle.ucq_print.specs.Texts.{line_feed, life_text, query_text, query_line, count_line, finished_lines, tuple_line, answer_count_line, answer_lines, answered_lines, row_line, row_lines, left_line, rows_cut_line, rows_cut_lines, wide_cut_line, wide_cut_lines, lines_text, label_text, section_line}
-use Rattle.ucq_print.specs.Laws.{IsLine, IsPrintable, AreReadable, ArePrintable, ArePrintableTuples, ArePrintableRows, BeginsASection, AreSectionLines, IsLabelLine}
+use Rattle.ucq_print.specs.Laws.{IsLine, IsPrintable, AreReadableNames, ArePrintable, ArePrintableTuples, ArePrintableRows, BeginsASection, AreSectionLines, IsLabelLine}
 use Rattle.ucq_print.proofs.Spelled.{decimals_apart, heads_differ, tails}
 use Rattle.ucq_print.proofs.LineFeeds.{IsSingle, is_told, single_both, single_nothing, single_number, single_run}
 use Rattle.ucq_print.proofs.Unions.{query_is_line, query_is_single, tuple_is_line}
@@ -136,7 +136,7 @@ cut_at_rule row rule small few =
 
 -- ---- unions, answers and cuts
 
-module _ (names : List (List ℕ)) (readable : AreReadable names) where
+module _ (names : List (List ℕ)) (readable : AreReadableNames names) where
   line_of_query : (q : Query) → IsPrintable names q → IsSectionLine (query_line names q)
   line_of_query q h = (
     query_is_line names readable q h,

@@ -15,7 +15,7 @@ use Rattle.ucq_chase.specs.Names.{IsHeldTerm, IsHeldAtom, AreHeldAtoms, IsHeldQu
 use Rattle.ucq_reader.specs.declared.input.Asked.{Asked}
 use Rattle.ucq_reader.specs.Names.{number, in_order}
 use Rattle.ucq_reader.specs.Meaning.{Symbol, constant, variable, SymbolAtom, SymbolRule, SymbolQuery, SymbolAsked, Meant}
-use Rattle.ucq_reader.specs.Input.{variables_in, terms_in, term_value, atom_value, rule_value, IsQueryOf, IsAskedOf, InputValue, IsNumbered}
+use Rattle.ucq_reader.specs.Input.{variables_in, terms_in, term_value, atom_value, rule_value, IsQueryOf, IsAskedOf, InputValue, HasNumbersOf}
 use Rattle.ucq_reader.specs.Building.{constants_of, atom_symbols, symbols_in, rule_symbols, query_symbols}
 use Rattle.ucq_reader.specs.Made.{made, made_rules, made_query, made_facts, rule_texts, query_texts, fact_texts}
 use Rattle.ucq_print.specs.Laws.{IsHeldInput}
@@ -101,7 +101,7 @@ among_names m names symbols e h = record {
   each = λ t i. subst (λ (l : List (List ℕ)). Contains l t) (sym e) (Contains-first_occurrences bytes_eq IsEquality-bytes_eq m.texts t (h t (Contains-constants symbols t i)));
 }
 
-pub numbered_is_held : (m : Meant) (input : InputValue) → HasTexts m → IsNumbered m input → IsHeldInput input
+pub numbered_is_held : (m : Meant) (input : InputValue) → HasTexts m → HasNumbersOf m input → IsHeldInput input
 numbered_is_held m input has n =
     let names : List (List ℕ) = input.names in
     let rules : All (IsHeldRule (length names)) input.rules =

@@ -15,7 +15,7 @@ use Rattle.ucq_lexer.specs.declared.Kind.{Kind}
 use Rattle.ucq_lexer.specs.declared.Kind.TheVariants.{Identifier, Iri, Label, Prefixed, Integer, Text}
 use Rattle.ucq_lexer.specs.declared.Token.{Token}
 use Rattle.ucq_lexer.specs.Bytes.{is_word_byte, is_local_start, is_iri_byte}
-use Rattle.ucq_lexer.specs.Spelling.{IsSpelled, IsRun, IsIri, IsInteger, IsText, IsLabel, IsLocalPart, IsPrefixed}
+use Rattle.ucq_lexer.specs.Spelling.{IsSpelled, IsStretch, IsIri, IsInteger, IsText, IsLabel, IsLocalPart, IsPrefixed}
 use Rattle.ucq_lexer.specs.Tokens.{Reads as TokensRead}
 use Rattle.ucq_reader.specs.declared.ReadFault.{ReadFault}
 use Rattle.ucq_reader.specs.Statement.{Word, identifier, iri, label, prefixed, integer, text, word_of, Statement, a_prefix, a_sentence, spelling}
@@ -23,7 +23,7 @@ use Rattle.ucq_reader.specs.File.{Reads}
 use Rattle.ucq_reader.specs.Names.{Declared, declared, declare, inner_bytes, prefix_part, local_part, expanded, word_text, is_undeclared, in_order}
 use Rattle.ucq_reader.specs.Meaning.{Meant, SymbolAsked, FileRead, malformed, parsed, Placed, placed, placed_from, texts_of, first_of, mapped, statement_fault, unknown_prefix, not_built, limit, unsafe_answer, file_fault, files_fault, unless, meant, with_queries}
 use Rattle.ucq_reader.specs.Input.{words, starts, AreRead, IsRead, IsGoneOn, InputValue, IsInput}
-use Rattle.ucq_print.specs.Laws.{IsNameText, AreReadable}
+use Rattle.ucq_print.specs.Laws.{IsNameText, AreReadableNames}
 use Rattle.ucq_print.proofs.Spelled.{word_run}
 
 -- the bytes of a word that are kept are spelled
@@ -58,27 +58,27 @@ IsGoodStatement s = (w : Word) → Contains (spelling s) w → IsGood w
 
 -- the inner bytes of declared Iris
 abbrev IsGoodDeclared : Declared → Type 0
-IsGoodDeclared ds = (d : List ℕ × List ℕ) → Contains ds d → IsRun is_iri_byte d.1
+IsGoodDeclared ds = (d : List ℕ × List ℕ) → Contains ds d → IsStretch is_iri_byte d.1
 
-inner_good : (bytes : List ℕ) → IsIri bytes → IsRun is_iri_byte (inner_bytes bytes)
+inner_good : (bytes : List ℕ) → IsIri bytes → IsStretch is_iri_byte (inner_bytes bytes)
 inner_good bytes (inner, enough, run, is) =
     let size : length inner ≡ length (60 ∷ (inner ++ 62 ∷ [])) - 2 = omega (arith, length-append inner (62 ∷ [])) in
     let same : inner_bytes bytes ≡ inner = ap inner_bytes is ∙ take_at inner (62 ∷ []) (length (60 ∷ (inner ++ 62 ∷ [])) - 2) size in
-    subst (λ (l : List ℕ). IsRun is_iri_byte l) (sym same) run
+    subst (λ (l : List ℕ). IsStretch is_iri_byte l) (sym same) run
 
 declare_good : (ds : Declared) (s : Statement) → IsGoodDeclared ds → IsGoodStatement s → IsGoodDeclared (declare ds s)
 declare_good ds (a_prefix name bytes dotted) h g = λ d i. elim (Contains-cons_cases (name, inner_bytes bytes) ds d i) [
-  | inl e ↦ subst (λ (p : List ℕ × List ℕ). IsRun is_iri_byte p.1) e (inner_good bytes (g (iri bytes) (suc (suc zero), omega arith, refl)))
+  | inl e ↦ subst (λ (p : List ℕ × List ℕ). IsStretch is_iri_byte p.1) e (inner_good bytes (g (iri bytes) (suc (suc zero), omega arith, refl)))
   | inr j ↦ h d j
 ]
 declare_good ds _ h g = h
 
-declared_good : (ds : Declared) (name inner : List ℕ) → IsGoodDeclared ds → declared ds name ≡ Some inner → IsRun is_iri_byte inner
+declared_good : (ds : Declared) (name inner : List ℕ) → IsGoodDeclared ds → declared ds name ≡ Some inner → IsStretch is_iri_byte inner
 declared_good [] name inner h e = absurd cc
 declared_good (d ∷ ds) name inner h e = go (bytes_eq name d.0) e (λ f. declared_good ds name inner (λ p i. h p (Contains-rest d ds p i)) f)
   where
-    go : (b : Bool) → cond b (Some d.1) (declared ds name) ≡ Some inner → (declared ds name ≡ Some inner → IsRun is_iri_byte inner) → IsRun is_iri_byte inner
-    go true f r = let same : d.1 ≡ inner = cc in subst (λ (l : List ℕ). IsRun is_iri_byte l) same (h d (Contains-first d ds))
+    go : (b : Bool) → cond b (Some d.1) (declared ds name) ≡ Some inner → (declared ds name ≡ Some inner → IsStretch is_iri_byte inner) → IsStretch is_iri_byte inner
+    go true f r = let same : d.1 ≡ inner = cc in subst (λ (l : List ℕ). IsStretch is_iri_byte l) same (h d (Contains-first d ds))
     go false f r = r f
 
 -- an expanded name is an Iri
@@ -242,7 +242,7 @@ meant_texts all (q ∷ more) m e = sym (ap texts_or_none e)
     texts_or_none (Ok x) = x.texts
     texts_or_none (Err x) = []
 
-pub input_names : (files : List (List ℕ)) (input : InputValue) → IsInput files input → AreReadable input.names
+pub input_names : (files : List (List ℕ)) (input : InputValue) → IsInput files input → AreReadableNames input.names
 input_names files input (m, (reads, are, outcome), numbered) =
     let whole = unless_ok (files_fault 0 reads) (meant (placed 0 reads)) m (sym outcome) in
     let counted = unless_ok _ _ m whole.1 in
@@ -251,4 +251,4 @@ input_names files input (m, (reads, are, outcome), numbered) =
     (let j : Contains (flat_map texts_of (placed 0 reads)) t = subst (λ (l : List (List ℕ)). Contains l t) texts (Contains-from_first_occurrences bytes_eq IsEquality-bytes_eq m.texts t i) in
     let (p, k, l) = Contains-from_flat_map texts_of (placed 0 reads) t j in
     names_of_placed p.file p.number p.starts p.before p.statement t (files_good 0 files reads are whole.0 p k) l) in
-    subst AreReadable (sym numbered.names) (record { different = IsDistinct-first_occurrences bytes_eq IsEquality-bytes_eq m.texts; spelled = All-from_contains IsNameText (in_order m.texts) each })
+    subst AreReadableNames (sym numbered.names) (record { different = IsDistinct-first_occurrences bytes_eq IsEquality-bytes_eq m.texts; spelled = All-from_contains IsNameText (in_order m.texts) each })

@@ -11,10 +11,10 @@ use Rattle.ucq_terms.specs.Syntax.{Atom, Query}
 use Rattle.ucq_terms.specs.Names.{name_text}
 use Rattle.ucq_terms.proofs.Lists.{Contains-cons_cases, Contains-empty, Contains-first, Contains-from_flat_map, Contains-rest}
 use Rattle.ucq_lexer.specs.Bytes.{is_word_byte, is_digit, is_sign, is_small, is_letter, is_local_start, is_tag_byte, is_iri_byte, is_plain, is_text_byte}
-use Rattle.ucq_lexer.specs.Spelling.{StartsRun, IsIri, IsInteger, IsUnits, none, plain, escaped, IsText, IsTail, IsPrefixed}
+use Rattle.ucq_lexer.specs.Spelling.{StartsStretch, IsIri, IsInteger, IsUnits, none, plain, escaped, IsText, IsTail, IsPrefixed}
 use Rattle.ucq_eval.specs.Tuples.{joined}
 use Rattle.ucq_print.specs.Texts.{term_text, terms_text, atom_text, answers_text, numbered_text}
-use Rattle.ucq_print.specs.Laws.{IsNameText, AreReadable}
+use Rattle.ucq_print.specs.Laws.{IsNameText, AreReadableNames}
 use Rattle.ucq_print.proofs.Spelled.{digits_run, word_run}
 use Rattle.ucq_print.proofs.ReadBack.{IsPrintedTerm, IsPrintedAtom, IsPrinted}
 
@@ -50,7 +50,7 @@ single_run p (b ∷ bytes) other h =
     let parts = and_parts (p b) (list_all p bytes) h in
     single_first b bytes (outside p b parts.0 other) (single_run p bytes other parts.1)
 
-single_starts : (first class : ℕ → Bool) (bytes : List ℕ) → first 10 ≡ false → class 10 ≡ false → StartsRun first class bytes → IsSingle bytes
+single_starts : (first class : ℕ → Bool) (bytes : List ℕ) → first 10 ≡ false → class 10 ≡ false → StartsStretch first class bytes → IsSingle bytes
 single_starts first class [] m n h = absurd h
 single_starts first class (b ∷ bytes) m n h = single_first b bytes (outside first b h.0 m) (single_run class bytes n h.1)
 
@@ -114,7 +114,7 @@ single_joined separator text (x ∷ xs) h k =
 abbrev pub is_told : ℕ → Bool
 is_told b = not (b == 10)
 
-module _ (names : List (List ℕ)) (readable : AreReadable names) where
+module _ (names : List (List ℕ)) (readable : AreReadableNames names) where
   single_term : (t : Term) → IsPrintedTerm names t → IsSingle (term_text names t)
   single_term (Constant c) h = single_name (name_text names c) (readable.spelled c [] h)
   single_term (Variable v) h = single_first 88 (decimal v) (λ e. omega arith) (single_number v h)

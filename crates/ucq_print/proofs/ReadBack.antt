@@ -10,7 +10,7 @@ use Rattle.ucq_terms.proofs.Pairwise.{AllPairs-at}
 use Rattle.ucq_terms.specs.Names.{name_text}
 use Rattle.ucq_eval.specs.Tuples.{joined}
 use Rattle.ucq_print.specs.Texts.{term_text, terms_text, atom_text, answers_text, numbered_text}
-use Rattle.ucq_print.specs.Laws.{IsNameText, AreReadable}
+use Rattle.ucq_print.specs.Laws.{IsNameText, AreReadableNames}
 use Rattle.ucq_print.proofs.Spelled.{AreOne, Stops, heads_differ, tails, open_stops, close_stops, comma_stops, names_apart, begins_otherwise, decimals_apart}
 
 -- what holds of each element, at the first and at the rest
@@ -33,7 +33,7 @@ pub record IsPrinted (names : List (List ℕ)) (q : Query) : Type 0 where
   pub answers : All (IsPrintedTerm names) q.answers
   pub atoms : All (IsPrintedAtom names) q.atoms
 
-module _ (names : List (List ℕ)) (readable : AreReadable names) where
+module _ (names : List (List ℕ)) (readable : AreReadableNames names) where
   spelled : (n : ℕ) → n < length names → IsNameText (name_text names n)
   spelled n h = readable.spelled n [] h
 

@@ -8,7 +8,7 @@ use Rattle.std.proofs.lemmas.Bool.Decides.{nat_tests}
 use Rattle.std.proofs.lemmas.Str.Parse.{digit_at}
 use Rattle.std.proofs.lemmas.Fmt.{decimal_is_IsNumeral, decimal_injective}
 use Rattle.ucq_lexer.specs.Bytes.{is_small, is_letter, is_digit, is_sign, is_word_byte, is_local_start, is_tag_byte, is_iri_byte}
-use Rattle.ucq_lexer.specs.Spelling.{StartsRun, IsEnclosed, IsIri, IsInteger, IsUnits, IsText, IsTail, IsWord, IsPrefixed}
+use Rattle.ucq_lexer.specs.Spelling.{StartsStretch, IsEnclosed, IsIri, IsInteger, IsUnits, IsText, IsTail, IsWord, IsPrefixed}
 use Rattle.ucq_lexer.specs.inner.Front.{closing_size}
 use Rattle.ucq_lexer.proofs.Runs.{closing_units}
 use Rattle.ucq_print.specs.Laws.{IsNameText}
@@ -67,7 +67,7 @@ run_apart p (x ∷ xs) (y ∷ ys) c d r s h k m n e =
     let one = run_apart p xs ys c d r s (and_parts (p x) (list_all p xs) h).1 (and_parts (p y) (list_all p ys) k).1 m n (tails e) in
     record { front = one_list (heads e) one.front; rest = one.rest }
 
-starts_apart : (first class : ℕ → Bool) (t u : List ℕ) (c d : ℕ) (r s : List ℕ) → StartsRun first class t → StartsRun first class u → class c ≡ false → class d ≡ false →
+starts_apart : (first class : ℕ → Bool) (t u : List ℕ) (c d : ℕ) (r s : List ℕ) → StartsStretch first class t → StartsStretch first class u → class c ≡ false → class d ≡ false →
     t ++ c ∷ r ≡ u ++ d ∷ s → AreOne t u (c ∷ r) (d ∷ s)
 starts_apart first class [] u c d r s h k m n e = absurd h
 starts_apart first class (x ∷ xs) [] c d r s h k m n e = absurd k
@@ -194,7 +194,7 @@ pub record BeginsAs (kind : ℕ) (t : List ℕ) : Type 0 where
   pub is : t ≡ byte ∷ after
   pub kind_of : first_kind byte ≡ kind
 
-identifier_begins : (t : List ℕ) → StartsRun is_small is_word_byte t → BeginsAs 0 t
+identifier_begins : (t : List ℕ) → StartsStretch is_small is_word_byte t → BeginsAs 0 t
 identifier_begins [] h = absurd h
 identifier_begins (x ∷ xs) h = record { byte = x; after = xs; is = refl; kind_of = ap (λ b. cond b 0 (cond (x == 60) 1 (cond (is_digit x || is_sign x) 2 (cond (x == 34) 3 4)))) h.0 }
 

@@ -14,7 +14,7 @@ use Rattle.ucq_terms.specs.Equality.{number_in}
 use Rattle.ucq_eval.specs.Tuples.{tuple_text}
 use Rattle.ucq_print.specs.Texts.{line_feed, term_text, terms_text, query_text, query_line, lines_text, count_line, finished_lines, finished_text, tuple_line, answer_count_line, answer_lines, answered_text}
 use Rattle.ucq_chase.specs.Names.{IsHeldTerm, IsHeldAtom}
-use Rattle.ucq_print.specs.Laws.{IsLine, IsPrintable, AreReadable, ArePrintable, ArePrintableTuples}
+use Rattle.ucq_print.specs.Laws.{IsLine, IsPrintable, AreReadableNames, ArePrintable, ArePrintableTuples}
 use Rattle.ucq_print.proofs.Spelled.{AreOne, decimals_apart, tails}
 use Rattle.ucq_print.proofs.LineFeeds.{IsSingle, is_told, single_both, single_query, single_run, single_terms}
 use Rattle.ucq_print.proofs.ToldLines.{counted_elements}
@@ -46,7 +46,7 @@ printed_query names q h = record {
   atoms = All-map (IsPrintedAtom names) (numbered_atom (query_order q)) q.atoms (λ k d l. printed_atom names (query_order q) h.variables _ (h.held.atoms k d l));
 }
 
-module _ (names : List (List ℕ)) (readable : AreReadable names) where
+module _ (names : List (List ℕ)) (readable : AreReadableNames names) where
   abbrev lines : List Query → List ℕ
   lines union = lines_text (map (query_line names) union)
 

@@ -9,7 +9,7 @@ use Rattle.ucq_lexer.specs.declared.Kind.TheVariants.{Identifier, Iri, Integer, 
 use Rattle.ucq_lexer.specs.Spelling.{IsSpelled}
 use Rattle.ucq_chase.specs.Names.{AreHeldAtoms, IsHeldQuery, IsHeldProblem}
 use Rattle.ucq_reader.specs.declared.input.Asked.{Asked}
-use Rattle.ucq_reader.specs.Input.{InputValue, IsInput, IsNumbered}
+use Rattle.ucq_reader.specs.Input.{InputValue, IsInput, HasNumbersOf}
 use Rattle.ucq_reader.specs.Made.{made}
 use Rattle.ucq_print.specs.Texts.{answer_lines, answered_lines, answered_text, finished_lines, finished_text, line_feed, lines_text, rows_cut_lines, rows_cut_text, section_line, wide_cut_lines, wide_cut_text}
 
@@ -57,7 +57,7 @@ abbrev pub IsNameText : List ℕ → Type 0
 IsNameText text = IsSpelled Identifier text ⊎ (IsSpelled Iri text ⊎ (IsSpelled Integer text ⊎ IsSpelled Text text))
 
 -- No name stands twice, and each is spelled so.
-pub record AreReadable (names : List (List ℕ)) : Type 0 where
+pub record AreReadableNames (names : List (List ℕ)) : Type 0 where
   pub different : AllPairs (λ a b. a ≢ b) names
   pub spelled : All IsNameText names
 
@@ -75,7 +75,7 @@ pub record ArePrintable (names : List (List ℕ)) (union : List Query) : Type 0 
 abbrev pub FinishedTextTellsUnion : Type 0
 FinishedTextTellsUnion =
     (names : List (List ℕ)) (one two : List Query) →
-    AreReadable names →
+    AreReadableNames names →
     ArePrintable names one →
     ArePrintable names two →
     finished_text names one ≡ finished_text names two →
@@ -85,7 +85,7 @@ FinishedTextTellsUnion =
 abbrev pub BeginningTellsUnion : Type 0
 BeginningTellsUnion =
     (names : List (List ℕ)) (one two : List Query) (rest_one rest_two : List ℕ) →
-    AreReadable names →
+    AreReadableNames names →
     ArePrintable names one →
     ArePrintable names two →
     finished_text names one ++ rest_one ≡ finished_text names two ++ rest_two →
@@ -101,7 +101,7 @@ pub record ArePrintableTuples (names : List (List ℕ)) (tuples : List (List ℕ
 abbrev pub AnsweredTextTellsUnion : Type 0
 AnsweredTextTellsUnion =
     (names : List (List ℕ)) (one two : List Query) (answers_one answers_two : List (List ℕ)) (rest_one rest_two : List ℕ) →
-    AreReadable names →
+    AreReadableNames names →
     ArePrintable names one →
     ArePrintable names two →
     ArePrintableTuples names answers_one →
@@ -124,7 +124,7 @@ numbered_row row = record row { query = numbered_query row.query }
 abbrev pub RowsCutTextTellsRows : Type 0
 RowsCutTextTellsRows =
     (names : List (List ℕ)) (budget_one budget_two : ℕ) (one two : List Row) (left_one left_two : Query) (rest_one rest_two : List ℕ) →
-    AreReadable names →
+    AreReadableNames names →
     budget_one < 2 ^ 64 →
     budget_two < 2 ^ 64 →
     ArePrintableRows names one →
@@ -145,7 +145,7 @@ BeginsARow bytes = (rest : List ℕ) × ((bytes ≡ codes "?" ++ rest) ⊎ (byte
 abbrev pub WideCutTextTellsRows : Type 0
 WideCutTextTellsRows =
     (names : List (List ℕ)) (row_one rule_one row_two rule_two : ℕ) (one two : List Row) (rest_one rest_two : List ℕ) →
-    AreReadable names →
+    AreReadableNames names →
     (row_one < 2 ^ 64) × (rule_one < 2 ^ 64) →
     (row_two < 2 ^ 64) × (rule_two < 2 ^ 64) →
     ArePrintableRows names one →
@@ -227,7 +227,7 @@ SectionsAreTold =
 abbrev pub TextsAreSections : Type 0
 TextsAreSections =
     (names : List (List ℕ)) →
-    AreReadable names →
+    AreReadableNames names →
     ((union : List Query) → ArePrintable names union → AreSectionLines (finished_lines names union))
     × ((union : List Query) (tuples : List (List ℕ)) → ArePrintable names union → ArePrintableTuples names tuples → AreSectionLines (answered_lines names union tuples))
     × ((budget : ℕ) (rows : List Row) (left : Query) → budget < 2 ^ 64 → ArePrintableRows names rows → IsPrintable names left →
@@ -244,7 +244,7 @@ HeadersAreNoAnswers =
 
 -- the names of what files stand for are readable
 abbrev pub InputNamesAreReadable : Type 0
-InputNamesAreReadable = (files : List (List ℕ)) (input : InputValue) → IsInput files input → AreReadable input.names
+InputNamesAreReadable = (files : List (List ℕ)) (input : InputValue) → IsInput files input → AreReadableNames input.names
 
 -- no label of it has a line feed, so that each header is a line
 abbrev pub InputLabelsAreLines : Type 0
@@ -265,4 +265,4 @@ InputNamesAreHeld = (files : List (List ℕ)) (input : InputValue) → IsInput f
 
 -- and the input that is made
 abbrev pub MadeNamesAreHeld : Type 0
-MadeNamesAreHeld = (number : ℕ) (input : InputValue) → IsNumbered (made number) input → IsHeldInput input
+MadeNamesAreHeld = (number : ℕ) (input : InputValue) → HasNumbersOf (made number) input → IsHeldInput input

@@ -14,7 +14,7 @@ use Rattle.ucq_reader.specs.Statement.{a_section, a_prefix, a_base, a_top, a_sen
 use Rattle.ucq_reader.specs.Meaning.{SymbolAtom, SymbolAsked, Placed, listed, symbol_atom, symbol_atoms, rule_of, fact_of, texts_of, asked_of, count_fault, with_queries, unless, meant}
 use Rattle.ucq_reader.specs.Input.{atom_value, rule_value, IsAskedOf}
 use Rattle.ucq_reader.specs.Gathered.{GatheredValue, IsGathered}
-use Rattle.ucq_reader.specs.Outcome.{word_count, IsWhole}
+use Rattle.ucq_reader.specs.Outcome.{word_count, IsDecidedBy}
 use Rattle.ucq_reader.proofs.Parsing.{spelling_pos}
 use Rattle.ucq_reader.proofs.Sizes.{atoms_length, sentence_length}
 
@@ -125,7 +125,7 @@ module _ (all : List Placed) (g : GatheredValue) (r n : ℕ) (h : IsGathered all
       pub no_query : g.asked ≡ 0 → meant all ≡ Err NoQuery
       no_query none = few_enough (omega (arith, none)) ∙ none_asked all (filter_map asked_of all) (sym h.asked ∙ none)
 
-      pub some_queries : 0 < g.asked → g.asked ≤ QUERIES → IsWhole all g None
+      pub some_queries : 0 < g.asked → g.asked ≤ QUERIES → IsDecidedBy all g None
       some_queries some few =
           let asks = filter_map asked_of all in (
             record { texts = flat_map texts_of all; rules = filter_map rule_of all; queries = asks; facts = filter_map fact_of all },

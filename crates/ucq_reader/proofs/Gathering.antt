@@ -18,7 +18,7 @@ use Rattle.ucq_reader.specs.declared.input.Asked.{Asked}
 use Rattle.ucq_reader.specs.Names.{number, in_order}
 use Rattle.ucq_reader.specs.Meaning.{Symbol, constant, variable, SymbolAtom, SymbolRule, SymbolQuery, SymbolAsked, Placed, texts_of, rule_of, asked_of, fact_of}
 use Rattle.ucq_reader.specs.Input.{variable_text, variables_in, terms_in, term_value, atom_value, rule_value, IsQueryOf, IsAskedOf, StandsIn}
-use Rattle.ucq_reader.specs.Gathered.{GatheredValue, AreFactsOf, IsGathered}
+use Rattle.ucq_reader.specs.Gathered.{GatheredValue, AreGatheredFacts, IsGathered}
 use Rattle.ucq_reader.specs.Building.{constants_of, atom_symbols, symbols_in, query_symbols, with_names, place_in, AddsFact, AddsRule, AddsQuery}
 use Rattle.ucq_reader.proofs.Built.{length-constants, length-variables}
 use Rattle.ucq_reader.proofs.Renumbering.{Contains-variable_texts}
@@ -130,7 +130,7 @@ facts_kept_from names more unknown k (f ∷ fs) h =
     ap₂ (λ x xs. x ++ xs) (atoms_kept names more (unknown k) f (h f (Contains-first f fs))) (facts_kept_from names more unknown (k + 1) fs (λ g i. h g (Contains-rest f fs g i)))
 
 facts_kept : (all : List Placed) (names more : List (List ℕ)) (unknowns : ℕ) (atoms : List Atom) → names ≡ in_order (flat_map texts_of all) →
-    AreFactsOf names (filter_map fact_of all) unknowns atoms → AreFactsOf (names ++ more) (filter_map fact_of all) unknowns atoms
+    AreGatheredFacts names (filter_map fact_of all) unknowns atoms → AreGatheredFacts (names ++ more) (filter_map fact_of all) unknowns atoms
 facts_kept all names more unknowns atoms e a = record {
   unknown = a.unknown;
   apart = a.apart;
@@ -174,7 +174,7 @@ next-last : (unknown : ℕ → List ℕ → ℕ) (count : ℕ) (place : List ℕ
 unfolding next_unknown
 next-last unknown count place i x e = ap (λ b. cond b (unknown i x) (place x)) (le-ltb i count (omega arith))
 
-module _ (names : List (List ℕ)) (meant : List (List SymbolAtom)) (unknowns : ℕ) (atoms : List Atom) (a : AreFactsOf names meant unknowns atoms) (f : List SymbolAtom) where
+module _ (names : List (List ℕ)) (meant : List (List SymbolAtom)) (unknowns : ℕ) (atoms : List Atom) (a : AreGatheredFacts names meant unknowns atoms) (f : List SymbolAtom) where
   count : ℕ
   count = length meant
 
@@ -223,7 +223,7 @@ module _ (names : List (List ℕ)) (meant : List (List SymbolAtom)) (unknowns : 
     ]
   ]
 
-  pub facts_added : AreFactsOf names (meant ++ f ∷ []) (unknowns + length (variables_in (terms_in f))) (atoms ++ map (atom_value names (place_in unknowns (variables_in (terms_in f)))) f)
+  pub facts_added : AreGatheredFacts names (meant ++ f ∷ []) (unknowns + length (variables_in (terms_in f))) (atoms ++ map (atom_value names (place_in unknowns (variables_in (terms_in f)))) f)
   facts_added =
       let place = place_in unknowns (variables_in (terms_in f)) in
       record {
@@ -284,7 +284,7 @@ pub nothing_gathered : (all : List Placed) (p : Placed) (g : GatheredValue) → 
 nothing_gathered all p g texts rule fact query h = record {
   names = names_more all p g.names g.names [] h.names texts refl;
   rules = h.rules ∙ ap (map (rule_value g.names)) (sym (filter_map-none rule_of all p rule));
-  facts = subst (λ l. AreFactsOf g.names l g.unknowns g.facts) (sym (filter_map-none fact_of all p fact)) h.facts;
+  facts = subst (λ l. AreGatheredFacts g.names l g.unknowns g.facts) (sym (filter_map-none fact_of all p fact)) h.facts;
   queries = subst (λ l. AllZip (IsAskedOf g.names) (take QUERIES l) g.queries) (sym (filter_map-none asked_of all p query)) h.queries;
   asked = h.asked ∙ ap length (sym (filter_map-none asked_of all p query));
 }
@@ -302,10 +302,10 @@ fact_gathered all p f old new fact rule query adds h =
           adds.rules ∙ (h.rules ∙ (sym (rules_kept all old.names more h.names) ∙
           ap₂ (λ n l. map (rule_value n) l) (sym names) (sym (filter_map-none rule_of all p rule))));
       facts =
-          subst (λ l. AreFactsOf new.names l new.unknowns new.facts) (sym (filter_map-some fact_of all p f fact))
-          (subst (λ k. AreFactsOf new.names (filter_map fact_of all ++ f ∷ []) k new.facts) (sym adds.unknowns)
-          (subst (λ l. AreFactsOf new.names (filter_map fact_of all ++ f ∷ []) (old.unknowns + length (variables_in (terms_in f))) l) (sym adds.facts)
-          (subst (λ n. AreFactsOf n (filter_map fact_of all ++ f ∷ []) (old.unknowns + length (variables_in (terms_in f))) (old.facts ++ map (atom_value n (place_in old.unknowns (variables_in (terms_in f)))) f)) (sym names) facts)));
+          subst (λ l. AreGatheredFacts new.names l new.unknowns new.facts) (sym (filter_map-some fact_of all p f fact))
+          (subst (λ k. AreGatheredFacts new.names (filter_map fact_of all ++ f ∷ []) k new.facts) (sym adds.unknowns)
+          (subst (λ l. AreGatheredFacts new.names (filter_map fact_of all ++ f ∷ []) (old.unknowns + length (variables_in (terms_in f))) l) (sym adds.facts)
+          (subst (λ n. AreGatheredFacts n (filter_map fact_of all ++ f ∷ []) (old.unknowns + length (variables_in (terms_in f))) (old.facts ++ map (atom_value n (place_in old.unknowns (variables_in (terms_in f)))) f)) (sym names) facts)));
       queries =
           subst (λ l. AllZip (IsAskedOf new.names) (take QUERIES l) new.queries) (sym no_query)
           (subst (AllZip (IsAskedOf new.names) (take QUERIES (filter_map asked_of all))) (sym adds.queries)
@@ -327,10 +327,10 @@ rule_gathered all p r old new rule fact query adds h =
           adds.rules ∙ (ap (λ l. l ++ rule_value new.names r ∷ []) kept ∙ (sym (map-append (rule_value new.names) (filter_map rule_of all) (r ∷ [])) ∙
           ap (map (rule_value new.names)) (sym (filter_map-some rule_of all p r rule))));
       facts =
-          subst (λ l. AreFactsOf new.names l new.unknowns new.facts) (sym (filter_map-none fact_of all p fact))
-          (subst (λ k. AreFactsOf new.names (filter_map fact_of all) k new.facts) (sym adds.unknowns)
-          (subst (λ l. AreFactsOf new.names (filter_map fact_of all) old.unknowns l) (sym adds.facts)
-          (subst (λ n. AreFactsOf n (filter_map fact_of all) old.unknowns old.facts) (sym names) (facts_kept all old.names more old.unknowns old.facts h.names h.facts))));
+          subst (λ l. AreGatheredFacts new.names l new.unknowns new.facts) (sym (filter_map-none fact_of all p fact))
+          (subst (λ k. AreGatheredFacts new.names (filter_map fact_of all) k new.facts) (sym adds.unknowns)
+          (subst (λ l. AreGatheredFacts new.names (filter_map fact_of all) old.unknowns l) (sym adds.facts)
+          (subst (λ n. AreGatheredFacts n (filter_map fact_of all) old.unknowns old.facts) (sym names) (facts_kept all old.names more old.unknowns old.facts h.names h.facts))));
       queries =
           subst (λ l. AllZip (IsAskedOf new.names) (take QUERIES l) new.queries) (sym no_query)
           (subst (AllZip (IsAskedOf new.names) (take QUERIES (filter_map asked_of all))) (sym adds.queries)
@@ -354,10 +354,10 @@ query_gathered all p q old new query fact rule adds h =
           adds.rules ∙ (h.rules ∙ (sym (rules_kept all old.names more h.names) ∙
           ap₂ (λ n l. map (rule_value n) l) (sym names) (sym (filter_map-none rule_of all p rule))));
       facts =
-          subst (λ l. AreFactsOf new.names l new.unknowns new.facts) (sym (filter_map-none fact_of all p fact))
-          (subst (λ k. AreFactsOf new.names (filter_map fact_of all) k new.facts) (sym adds.unknowns)
-          (subst (λ l. AreFactsOf new.names (filter_map fact_of all) old.unknowns l) (sym adds.facts)
-          (subst (λ n. AreFactsOf n (filter_map fact_of all) old.unknowns old.facts) (sym names) (facts_kept all old.names more old.unknowns old.facts h.names h.facts))));
+          subst (λ l. AreGatheredFacts new.names l new.unknowns new.facts) (sym (filter_map-none fact_of all p fact))
+          (subst (λ k. AreGatheredFacts new.names (filter_map fact_of all) k new.facts) (sym adds.unknowns)
+          (subst (λ l. AreGatheredFacts new.names (filter_map fact_of all) old.unknowns l) (sym adds.facts)
+          (subst (λ n. AreGatheredFacts n (filter_map fact_of all) old.unknowns old.facts) (sym names) (facts_kept all old.names more old.unknowns old.facts h.names h.facts))));
       queries = subst (λ l. AllZip (IsAskedOf new.names) (take QUERIES l) new.queries) (sym asked) now;
       asked = omega (arith, adds.asked, h.asked, ap length asked, length-append (filter_map asked_of all) (q ∷ []));
     }

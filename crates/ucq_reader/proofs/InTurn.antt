@@ -7,9 +7,9 @@ use Rattle.std.specs.declared.alloc.Global.{Global}
 use Rattle.ucq_reader.specs.declared.ReadFault.{ReadFault}
 use Rattle.ucq_reader.specs.Statement.{spelling}
 use Rattle.ucq_reader.specs.Meaning.{Placed, FileRead, parsed, placed_from, placed, file_fault, files_fault, first_of, unless, meant, meaning}
-use Rattle.ucq_reader.specs.Input.{InputValue, IsGoneOn, AreRead, IsNumbered, IsInput, IsRefused}
+use Rattle.ucq_reader.specs.Input.{InputValue, IsGoneOn, AreRead, HasNumbersOf, IsInput, IsRefused}
 use Rattle.ucq_reader.specs.Gathered.{GatheredValue, IsGathered}
-use Rattle.ucq_reader.specs.Outcome.{word_count, byte_count, texts, IsFileTaken, IsFileFault, IsWhole}
+use Rattle.ucq_reader.specs.Outcome.{word_count, byte_count, texts, IsFileTaken, IsFileFault, IsDecidedBy}
 
 -- the files before the one of this number have been taken
 pub record IsReadTo (files : List (List ℕ)) (file : ℕ) (g : GatheredValue) : Type 0 where
@@ -101,7 +101,7 @@ all_read files file g t h = t.goes_on [] (subst (λ (xs : List (List ℕ)). AreR
 means : (files : List (List ℕ)) (file : ℕ) (g : GatheredValue) (t : IsReadTo files file g) → meaning (t.reads ++ []) ≡ meant t.all
 means files file g t = ap (λ (o : Option ReadFault). unless o (meant (placed 0 (t.reads ++ [])))) (t.faultless []) ∙ ap meant (t.placing [] ∙ append-nil t.all)
 
-pub whole_refused : (files : List (List ℕ)) (file : ℕ) (g : GatheredValue) (t : IsReadTo files file g) → length files ≤ file → (f : ReadFault) → IsWhole t.all g (Some f) → IsRefused files f
+pub whole_refused : (files : List (List ℕ)) (file : ℕ) (g : GatheredValue) (t : IsReadTo files file g) → length files ≤ file → (f : ReadFault) → IsDecidedBy t.all g (Some f) → IsRefused files f
 whole_refused files file g t h f w = (t.reads ++ [], all_read files file g t h, sym (means files file g t ∙ w))
 
 -- the parts are those that were gathered
@@ -114,5 +114,5 @@ pub record ArePartsOf (g : GatheredValue) (input : InputValue) : Type 0 where
 pub parts : (g : GatheredValue) (input : InputValue) → ArePartsOf g input → record { names = g.names; rules = g.rules; queries = g.queries; facts = g.facts } ≡ input
 parts g input p = λ i. record { names = sym p.names i; rules = sym p.rules i; queries = sym p.queries i; facts = sym p.facts i }
 
-pub whole_input : (files : List (List ℕ)) (file : ℕ) (g : GatheredValue) (t : IsReadTo files file g) → length files ≤ file → IsWhole t.all g None → (input : InputValue) → ArePartsOf g input → IsInput files input
-whole_input files file g t h (m, e, numbered) input p = (m, (t.reads ++ [], all_read files file g t h, sym (means files file g t ∙ e)), subst (IsNumbered m) (parts g input p) numbered)
+pub whole_input : (files : List (List ℕ)) (file : ℕ) (g : GatheredValue) (t : IsReadTo files file g) → length files ≤ file → IsDecidedBy t.all g None → (input : InputValue) → ArePartsOf g input → IsInput files input
+whole_input files file g t h (m, e, numbered) input p = (m, (t.reads ++ [], all_read files file g t h, sym (means files file g t ∙ e)), subst (HasNumbersOf m) (parts g input p) numbered)

@@ -19,8 +19,8 @@ use Rattle.ucq_terms.proofs.Numbering.{with_elements_keep, length-with_elements}
 use Rattle.ucq_reader.specs.Names.{number, in_order}
 use Rattle.ucq_reader.specs.Statement.{Several, TermSyntax, a_variable, a_name, by_identifier, AtomSyntax, Sentence, a_fact, a_rule, a_query, a_sentence}
 use Rattle.ucq_reader.specs.Meaning.{Symbol, constant, variable, SymbolAtom, SymbolRule, SymbolAsked, Placed, texts_of, rule_of, asked_of, fact_of}
-use Rattle.ucq_reader.specs.Input.{terms_in, term_value, atom_value, rule_value, IsQueryOf, IsAskedOf, InputValue, IsNumbered}
-use Rattle.ucq_reader.specs.Gathered.{GatheredValue, AreFactsOf}
+use Rattle.ucq_reader.specs.Input.{terms_in, term_value, atom_value, rule_value, IsQueryOf, IsAskedOf, InputValue, HasNumbersOf}
+use Rattle.ucq_reader.specs.Gathered.{GatheredValue, AreGatheredFacts}
 use Rattle.ucq_reader.specs.Building.{with_names, IsNumberOf, IsSafeQuery, AddsFact, AddsRule, AddsQuery}
 use Rattle.ucq_reader.specs.Made.{numbered, x, y, unary, binary, chain_rule, last_rule, made_query, pair_fact, last_fact, made_rules, made_facts, made, rule_texts, query_texts, fact_texts}
 use Rattle.ucq_reader.specs.inner.Making.{place, IsMadeAtom, AreMadeAtoms, unlabelled, asked_texts, all_texts, IsMadeOf, HasChain, HasRules, HasPairs, HasFacts}
@@ -316,14 +316,14 @@ facts_done n old new adds h = record {
 
 -- ---- the input
 
-pub made_numbered : (n : ℕ) (g : GatheredValue) (input : InputValue) → HasFacts n g → ArePartsOf g input → IsNumbered (made n) input
+pub made_numbered : (n : ℕ) (g : GatheredValue) (input : InputValue) → HasFacts n g → ArePartsOf g input → HasNumbersOf (made n) input
 made_numbered n g input h p =
     let m = h.made in
     let queries = subst (λ l. AllZip (IsAskedOf g.names) (take QUERIES l) g.queries) m.queries_are m.gathered.queries in
-    let facts = subst (λ l. AreFactsOf g.names l g.unknowns g.facts) m.facts_are m.gathered.facts in
+    let facts = subst (λ l. AreGatheredFacts g.names l g.unknowns g.facts) m.facts_are m.gathered.facts in
     let texts : flat_map texts_of m.all ≡ flat_map rule_texts (made_rules n) ++ (query_texts made_query ++ flat_map fact_texts (made_facts n)) =
     m.texts ∙ ap (λ (l : List (List ℕ)). flat_map rule_texts (made_rules n) ++ (l ++ flat_map fact_texts (made_facts n))) (append-nil (query_texts made_query)) in
-    subst (IsNumbered (made n)) (parts g input p) (record {
+    subst (HasNumbersOf (made n)) (parts g input p) (record {
       names = m.gathered.names ∙ ap in_order texts;
       rules = m.gathered.rules ∙ ap (map (rule_value g.names)) m.rules_are;
       queries = queries;
@@ -333,5 +333,5 @@ made_numbered n g input h p =
     })
 
 -- it has one query
-pub one_query : (n : ℕ) (input : InputValue) → IsNumbered (made n) input → length input.queries ≡ 1
+pub one_query : (n : ℕ) (input : InputValue) → HasNumbersOf (made n) input → length input.queries ≡ 1
 one_query n input is = AllZip-long (IsAskedOf input.names) (made n).queries input.queries is.queries

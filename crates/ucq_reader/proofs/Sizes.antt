@@ -14,7 +14,7 @@ use Rattle.ucq_lexer.specs.declared.Token.{Token}
 use Rattle.ucq_reader.specs.Statement.{closing, if_sign, dot, Several, TermSyntax, AtomSyntax, a_fact, a_rule, a_query, a_constraint, Sentence, Statement, a_section, a_prefix, a_base, a_top, a_sentence, spelling, label_words, sentence_words, answers_words, more_terms, terms_words, atom_words, more_atoms, atoms_words}
 use Rattle.ucq_reader.specs.Meaning.{listed, arity, answer_terms, written_atoms, written_answers, limited_atoms, first_above}
 use Rattle.ucq_reader.specs.View.{atoms_view, statement_view, word_at}
-use Rattle.ucq_reader.specs.inner.Placing.{IsSpelled}
+use Rattle.ucq_reader.specs.inner.Placing.{IsSpelledBy}
 
 -- ---- numbers that are at most this
 
@@ -139,5 +139,5 @@ pub atoms_at_most : (s : Statement) (n c : ℕ) → length (spelling s) ≤ n �
 atoms_at_most s n c le e = above_at_most 32 n (map length (limited_atoms s)) c (at_most_more (length (spelling s)) n (map length (limited_atoms s)) le (small s).atoms) e
 
 -- a statement has as many words as tokens
-pub spelled_length : (text : List ℕ) (tokens : List Token) (form : StatementForm) → IsSpelled text tokens form → length (spelling (statement_view text form)) ≡ length tokens
+pub spelled_length : (text : List ℕ) (tokens : List Token) (form : StatementForm) → IsSpelledBy text tokens form → length (spelling (statement_view text form)) ≡ length tokens
 spelled_length text tokens form e = ap length e ∙ length-map tokens (word_at text)

@@ -16,9 +16,9 @@ use Rattle.ucq_reader.specs.Names.{Declared, declare}
 use Rattle.ucq_reader.specs.Meaning.{Placed, placed_from, statement_fault, first_of, parsed}
 use Rattle.ucq_reader.specs.Input.{words, starts, IsRead}
 use Rattle.ucq_reader.specs.Gathered.{GatheredValue, IsGathered}
-use Rattle.ucq_reader.specs.Outcome.{OrMemory, word_count, AreTakenUp, IsGrown, IsAdmitted, IsJudged, IsFileTaken, IsFileFault}
+use Rattle.ucq_reader.specs.Outcome.{OrMemory, word_count, AreTakenUp, GrowsBy, IsAdmitted, IsJudged, IsFileTaken, IsFileFault}
 use Rattle.ucq_reader.specs.inner.Ending.{words_from, IsEnding}
-use Rattle.ucq_reader.specs.inner.Placing.{placed_view, IsSpelled}
+use Rattle.ucq_reader.specs.inner.Placing.{placed_view, IsSpelledBy}
 use Rattle.ucq_reader.specs.View.{word_at, declared_view, statement_view}
 use Rattle.ucq_reader.proofs.Numbering.{first_of-append}
 use Rattle.ucq_reader.proofs.Parsing.{IsMore, tokens_count, complete_more, words_parts, all_read}
@@ -134,7 +134,7 @@ module _ (file : ℕ) (text : List ℕ) (ts : List Token) (place number : ℕ) (
   pub size : length (tokens_at ts place count) ≡ count
   size = omega (arith, length-take count (drop place ts), length-drop place ts, more.within)
 
-  pub spelled : IsSpelled text (tokens_at ts place count) form
+  pub spelled : IsSpelledBy text (tokens_at ts place count) form
   spelled = sym (sym (take-map (word_at text) count (drop place ts)) ∙ (ap (take count) split_words ∙ take_at (spelling s) (words_from text ts (place + count)) count (sym more.counted)))
 
   read_more : IsReadTo text ts (place + count) (number + 1) (ss ++ s ∷ [])
@@ -164,7 +164,7 @@ module _ (file : ℕ) (text : List ℕ) (ts : List Token) (place number : ℕ) (
       split_here rest = ap (placed_from file 0 (starts ts) []) (append_assoc ss (s ∷ []) rest) ∙ (t.split (s ∷ rest) ∙ ap (λ (ps : List Placed). t.done ++ ps) (placed_here rest))
 
       -- it is taken
-      pub step : (ds' : List Declaration) (new : GatheredValue) → statement_fault here ≡ None → AreTakenUp (here ∷ []) mid new → IsGrown mid new (length (tokens_at ts place count)) → declared_view text ds' ≡ declare (declared_view text ds) s → IsTakenTo file text ts (place + count) (number + 1) ds' None old new
+      pub step : (ds' : List Declaration) (new : GatheredValue) → statement_fault here ≡ None → AreTakenUp (here ∷ []) mid new → GrowsBy mid new (length (tokens_at ts place count)) → declared_view text ds' ≡ declare (declared_view text ds) s → IsTakenTo file text ts (place + count) (number + 1) ds' None old new
       step ds' new none taken grown declares = record {
         before = ss ++ s ∷ [];
         read = read_more;

@@ -20,7 +20,7 @@ pub record GatheredValue : Type 0 where
   pub asked : ℕ
 
 -- the atoms stand for those of the fact statements, of which no two share an unknown value
-pub record AreFactsOf (names : List (List ℕ)) (meant : List (List SymbolAtom)) (unknowns : ℕ) (atoms : List Atom) : Type 0 where
+pub record AreGatheredFacts (names : List (List ℕ)) (meant : List (List SymbolAtom)) (unknowns : ℕ) (atoms : List Atom) : Type 0 where
   pub unknown : ℕ → List ℕ → ℕ
   pub apart : (i j : ℕ) (x y : List ℕ) → StandsIn meant i x → StandsIn meant j y → unknown i x ≡ unknown j y → (i ≡ j) × (x ≡ y)
   pub below : (i : ℕ) (x : List ℕ) → StandsIn meant i x → unknown i x < unknowns
@@ -30,7 +30,7 @@ pub record AreFactsOf (names : List (List ℕ)) (meant : List (List SymbolAtom))
 pub record IsGathered (all : List Placed) (g : GatheredValue) : Type 0 where
   pub names : g.names ≡ in_order (flat_map texts_of all)
   pub rules : g.rules ≡ map (rule_value g.names) (filter_map rule_of all)
-  pub facts : AreFactsOf g.names (filter_map fact_of all) g.unknowns g.facts
+  pub facts : AreGatheredFacts g.names (filter_map fact_of all) g.unknowns g.facts
   pub queries : AllZip (IsAskedOf g.names) (take QUERIES (filter_map asked_of all)) g.queries
   pub asked : g.asked ≡ length (filter_map asked_of all)
 

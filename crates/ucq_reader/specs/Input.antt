@@ -97,7 +97,7 @@ StandsIn facts i text = Contains (terms_in (slice_index_or facts i [])) (variabl
 
 -- The input has the numbers of these texts. Each variable of a fact statement has a number that no other variable of
 -- it and no other fact statement has.
-pub record IsNumbered (meant : Meant) (input : InputValue) : Type 0 where
+pub record HasNumbersOf (meant : Meant) (input : InputValue) : Type 0 where
   pub names : input.names ≡ in_order meant.texts
   pub rules : input.rules ≡ map (rule_value input.names) meant.rules
   pub queries : AllZip (IsAskedOf input.names) meant.queries input.queries
@@ -113,7 +113,7 @@ IsMeaning files outcome = (reads : List FileRead) × AreRead 0 files reads × (o
 
 -- the files stand for the input
 abbrev pub IsInput : List (List ℕ) → InputValue → Type 0
-IsInput files input = (meant : Meant) × IsMeaning files (Ok meant) × IsNumbered meant input
+IsInput files input = (meant : Meant) × IsMeaning files (Ok meant) × HasNumbersOf meant input
 
 -- the files are refused so
 abbrev pub IsRefused : List (List ℕ) → ReadFault → Type 0

@@ -10,7 +10,7 @@ use Rattle.ucq_reader.specs.declared.names.Declaration.{Declaration}
 use Rattle.ucq_reader.specs.Names.{declare}
 use Rattle.ucq_reader.specs.View.{declared_view}
 use Rattle.ucq_reader.specs.Meaning.{Meant, Placed, FileRead, statement_fault, parsed, placed_from, file_fault, meant}
-use Rattle.ucq_reader.specs.Input.{InputValue, IsRead, IsNumbered, IsRefused}
+use Rattle.ucq_reader.specs.Input.{InputValue, IsRead, HasNumbersOf, IsRefused}
 use Rattle.ucq_reader.specs.Gathered.{GatheredValue, IsGathered}
 
 -- want of memory is free; of every other fault this holds
@@ -25,7 +25,7 @@ abbrev pub AreTakenUp : List Placed → GatheredValue → GatheredValue → Type
 AreTakenUp more old new = (all : List Placed) → IsGathered all old → IsGathered (all ++ more) new
 
 -- at most so many names have come, so many unknown values and so many queries
-pub record IsGrown (old new : GatheredValue) (count : ℕ) : Type 0 where
+pub record GrowsBy (old new : GatheredValue) (count : ℕ) : Type 0 where
   pub names : length new.names ≤ length old.names + count
   pub unknowns : new.unknowns ≤ old.unknowns + count
   pub asked : new.asked ≤ old.asked + count
@@ -34,7 +34,7 @@ pub record IsGrown (old new : GatheredValue) (count : ℕ) : Type 0 where
 pub record IsAdmitted (text : List ℕ) (p : Placed) (count : ℕ) (before after : List Declaration) (old new : GatheredValue) : Type 0 where
   pub clear : statement_fault p ≡ None
   pub taken : AreTakenUp (p ∷ []) old new
-  pub grown : IsGrown old new count
+  pub grown : GrowsBy old new count
   pub declared : declared_view text after ≡ declare (declared_view text before) p.statement
 
 -- an earlier refusal stays; where there is none, the statement is admitted, or it has a refusal of its own
@@ -64,7 +64,7 @@ pub record IsFileTaken (file : ℕ) (text : List ℕ) (old new : GatheredValue) 
   pub read : IsRead file text (parsed statements places)
   pub clear : file_fault file (parsed statements places) ≡ None
   pub taken : AreTakenUp (placed_from file 0 places [] statements) old new
-  pub grown : IsGrown old new (length text)
+  pub grown : GrowsBy old new (length text)
   pub few : word_count (placed_from file 0 places [] statements) ≤ length text
 
 -- this is the first refusal of the file
@@ -79,12 +79,12 @@ input_value i = record { names = i.names; rules = i.rules.items; queries = i.que
 
 -- what is gathered has the numbers of what is meant
 abbrev pub IsMeant : Meant → GatheredValue → Type 0
-IsMeant m g = IsNumbered m (record { names = g.names; rules = g.rules; queries = g.queries; facts = g.facts })
+IsMeant m g = HasNumbersOf m (record { names = g.names; rules = g.rules; queries = g.queries; facts = g.facts })
 
 -- why statements, of which none is refused, stand for no input; or that this has been gathered of what they stand for
-abbrev pub IsWhole : List Placed → GatheredValue → Option ReadFault → Type 0
-IsWhole all g (Some fault) = meant all ≡ Err fault
-IsWhole all g None = (m : Meant) × (meant all ≡ Ok m) × IsMeant m g
+abbrev pub IsDecidedBy : List Placed → GatheredValue → Option ReadFault → Type 0
+IsDecidedBy all g (Some fault) = meant all ≡ Err fault
+IsDecidedBy all g None = (m : Meant) × (meant all ≡ Ok m) × IsMeant m g
 
 -- the files are refused so
 abbrev pub IsFault : List (List ℕ) → ReadFault → Type 0

@@ -328,8 +328,8 @@ impl Numbers {
     ) -> Result<Query, ReadFault>
         requires terms { HaveFewTerms body.now }
         requires few_atoms { length body.now.others.items < 32 }
-        requires few_answers { length (written_query text.now declarations.now answers.now body.now).answers
-            ≤ 16 }
+        requires few_answers { length
+            (written_query text.now declarations.now answers.now body.now).answers ≤ 16 }
         requires safe { IsSafeQuery (written_query text.now declarations.now answers.now body.now) }
         requires names { length self.old.names +
             length

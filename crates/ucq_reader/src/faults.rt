@@ -5,7 +5,7 @@ ghost use Rattle.std.specs.List.{filter_map, list_any};
 ghost use Rattle.ucq_reader.specs.Names.{expanded, word_text};
 ghost use Rattle.ucq_reader.specs.Meaning.{mapped, listed, first_above, arity as spec_arity, first_unknown, first_loose as spec_first_loose, is_variable as spec_is_variable, has_variable as spec_has_variable, is_loose as spec_is_loose, limited_atoms, limit as spec_limit, passed_limit as spec_passed_limit, not_built as spec_not_built, statement_fault as spec_statement_fault, unsafe_answer as spec_unsafe_answer, texts_of, written_answers, written_atoms};
 ghost use Rattle.ucq_reader.specs.Input.{words, starts};
-ghost use Rattle.ucq_reader.specs.inner.Placing.{IsSpelled, placed_view};
+ghost use Rattle.ucq_reader.specs.inner.Placing.{IsSpelledBy, placed_view};
 ghost use Rattle.ucq_reader.specs.View.{atom_view, atoms_view, declared_view, sentence_view, statement_view, term_view, word_at};
 
 use crate::names::{Declaration, declared, is_undeclared, slice_of, split_prefixed};
@@ -139,7 +139,7 @@ fn long_name_of(
     form: &StatementForm,
 ) -> Option<usize>
     requires text { length text.now ≤ BYTES }
-    requires spelled { IsSpelled text.now tokens.now form.now }
+    requires spelled { IsSpelledBy text.now tokens.now form.now }
     ensures value { result ≡
         first_above
         1024
@@ -319,7 +319,7 @@ fn passed_limit(
 ) -> Option<(Which, usize)>
     requires text { length text.now ≤ BYTES }
     requires tokens { length tokens.now ≤ BYTES }
-    requires spelled { IsSpelled text.now tokens.now form.now }
+    requires spelled { IsSpelledBy text.now tokens.now form.now }
     ensures value { result ≡
         spec_passed_limit (placed_view 0 0 text.now declarations.now [] form.now) }
     ensures small { IfSome result (λ passed. passed.1 ≤ 2 ^ 28) }
@@ -349,7 +349,7 @@ fn limit(
 ) -> Option<ReadFault>
     requires text { length text.now ≤ BYTES }
     requires tokens { length tokens.now ≤ BYTES }
-    requires spelled { IsSpelled text.now tokens.now form.now }
+    requires spelled { IsSpelledBy text.now tokens.now form.now }
     ensures { result ≡
         spec_limit (placed_view place.file place.number text.now declarations.now [] form.now) }
 {
@@ -397,7 +397,7 @@ pub fn statement_fault(
 ) -> Option<ReadFault>
     requires text { length text.now ≤ BYTES }
     requires tokens { length tokens.now ≤ BYTES }
-    requires spelled { IsSpelled text.now tokens.now form.now }
+    requires spelled { IsSpelledBy text.now tokens.now form.now }
     ensures { result ≡
         spec_statement_fault
         (placed_view place.file place.number text.now declarations.now tokens.now form.now) }

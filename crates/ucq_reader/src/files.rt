@@ -6,9 +6,9 @@ ghost use Rattle.ucq_reader.specs.Names.{declare as spec_declare};
 ghost use Rattle.ucq_reader.specs.Gathered.{IsGathered};
 ghost use Rattle.ucq_reader.specs.Input.{IsInput};
 ghost use Rattle.ucq_reader.specs.Meaning.{Placed, statement_fault as spec_statement_fault};
-ghost use Rattle.ucq_reader.specs.Outcome.{OrMemory, AreTakenUp, IsGrown, IsAdmitted, IsJudged, IsFileTaken, IsFileFault, IsFault, IsWhole, byte_count, input_value, texts};
+ghost use Rattle.ucq_reader.specs.Outcome.{OrMemory, AreTakenUp, GrowsBy, IsAdmitted, IsJudged, IsFileTaken, IsFileFault, IsFault, IsDecidedBy, byte_count, input_value, texts};
 ghost use Rattle.ucq_lexer.specs.Tokens.{Spells};
-ghost use Rattle.ucq_reader.specs.inner.Placing.{IsSpelled, placed_view};
+ghost use Rattle.ucq_reader.specs.inner.Placing.{IsSpelledBy, placed_view};
 ghost use Rattle.ucq_reader.specs.View.{declared_view, statement_view};
 
 use crate::faults::{Place, statement_fault};
@@ -53,7 +53,7 @@ fn take_statement(
 ) -> Result<(), ReadFault>
     requires text { length text.now ≤ BYTES }
     requires tokens { length tokens.now ≤ BYTES }
-    requires spelled { IsSpelled text.now tokens.now form.now }
+    requires spelled { IsSpelledBy text.now tokens.now form.now }
     requires names { length gathered.old.names + length tokens.now < 2 ^ 32 - 1 }
     requires unknowns { gathered.old.unknowns + length tokens.now < 2 ^ 32 - 1 }
     requires asked { gathered.old.asked + length tokens.now < 2 ^ 32 - 1 }
@@ -67,7 +67,7 @@ fn take_statement(
         (AreTakenUp
         (placed_view place.file place.number text.now declarations.now tokens.now form.now ∷ [])
         gathered.old gathered.new) }
-    ensures grown { OnOk result (IsGrown gathered.old gathered.new (length tokens.now)) }
+    ensures grown { OnOk result (GrowsBy gathered.old gathered.new (length tokens.now)) }
     ensures fault { IfErr result (λ f.
         OrMemory
         (λ (g : ReadFault).
@@ -95,7 +95,7 @@ fn admit(
 ) -> Result<(), ReadFault>
     requires text { length text.now ≤ BYTES }
     requires tokens { length tokens.now ≤ BYTES }
-    requires spelled { IsSpelled text.now tokens.now form.now }
+    requires spelled { IsSpelledBy text.now tokens.now form.now }
     requires names { length gathered.old.names + length tokens.now < 2 ^ 32 - 1 }
     requires unknowns { gathered.old.unknowns + length tokens.now < 2 ^ 32 - 1 }
     requires asked { gathered.old.asked + length tokens.now < 2 ^ 32 - 1 }
@@ -140,7 +140,7 @@ fn judge(
 ) -> Option<ReadFault>
     requires text { length text.now ≤ BYTES }
     requires tokens { length tokens.now ≤ BYTES }
-    requires spelled { IsSpelled text.now tokens.now form.now }
+    requires spelled { IsSpelledBy text.now tokens.now form.now }
     requires names { refusal ≡ None → length gathered.old.names + length tokens.now < 2 ^ 32 - 1 }
     requires unknowns { refusal ≡ None → gathered.old.unknowns + length tokens.now < 2 ^ 32 - 1 }
     requires asked { refusal ≡ None → gathered.old.asked + length tokens.now < 2 ^ 32 - 1 }
@@ -237,7 +237,7 @@ fn whole_fault(gathered: &Gathered) -> Option<ReadFault>
     requires facts { length gathered.now.facts < 2 ^ 32 }
     ensures whole { (all : List Placed) →
         IsGathered all gathered.now →
-        IsWhole all gathered.now result }
+        IsDecidedBy all gathered.now result }
     ensures few_rules { result ≡ None → length gathered.now.rules ≤ RULES }
     ensures few_facts { result ≡ None → length gathered.now.facts ≤ FACTS }
     ensures some_query { result ≡ None → 0 < gathered.now.asked }

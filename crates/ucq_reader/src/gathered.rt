@@ -77,10 +77,10 @@ impl Gathered {
         requires accepted { IsAccepted
             (declared_view text.now declarations.now)
             (statement_view text.now statement.now) }
-        requires names { length self.old.names + length (spelling (statement_view text.now statement.now))
-            < 2 ^ 32 - 1 }
-        requires unknowns { self.old.unknowns + length (spelling (statement_view text.now statement.now))
-            < 2 ^ 32 - 1 }
+        requires names { length self.old.names +
+            length (spelling (statement_view text.now statement.now)) < 2 ^ 32 - 1 }
+        requires unknowns { self.old.unknowns +
+            length (spelling (statement_view text.now statement.now)) < 2 ^ 32 - 1 }
         requires asked { self.old.asked + length (spelling (statement_view text.now statement.now))
             < 2 ^ 32 - 1 }
         ensures gathered { OnOk
@@ -206,8 +206,8 @@ impl Gathered {
     ) -> Result<(), ReadFault>
         requires body_terms { HaveFewTerms body.now }
         requires few_body { length body.now.others.items < 32 }
-        requires few_answers { length (written_query text.now declarations.now answers.now body.now).answers
-            ≤ 16 }
+        requires few_answers { length
+            (written_query text.now declarations.now answers.now body.now).answers ≤ 16 }
         requires safe { IsSafeQuery (written_query text.now declarations.now answers.now body.now) }
         requires names { length self.old.names +
             length

@@ -3,7 +3,7 @@ ghost use Rattle.std.specs.Prelude.{◌≡◌, ◌≤◌, ◌<◌, ◌+◌, ◌-
 ghost use Rattle.ucq_terms.specs.declared.TheConstants.{FACTS, QUERIES, RULES};
 ghost use Rattle.ucq_terms.specs.Names.{with_name};
 ghost use Rattle.ucq_reader.specs.Meaning.{constant};
-ghost use Rattle.ucq_reader.specs.Input.{IsNumbered, IsQueryOf, rule_value};
+ghost use Rattle.ucq_reader.specs.Input.{HasNumbersOf, IsQueryOf, rule_value};
 ghost use Rattle.ucq_reader.specs.Building.{AddsFact, AddsQuery, AddsRule, IsNumberOf, with_names};
 ghost use Rattle.ucq_reader.specs.Outcome.{input_value};
 ghost use Rattle.ucq_reader.specs.Made.{binary, chain_rule, last_fact, last_rule, made, made_query, numbered, pair_fact, query_texts, rule_texts, unary};
@@ -25,7 +25,7 @@ const Y: Term = Term::Variable(1);
 pub fn made_input(alloc: Global, n: u32) -> Result<Input, NoMemory>
     requires some { 1 ≤ n }
     requires few { n ≤ 4000 }
-    ensures numbered { IfOk result (λ input. IsNumbered (made n) (input_value input)) }
+    ensures numbered { IfOk result (λ input. HasNumbersOf (made n) (input_value input)) }
 
     // So the rules, the facts and the queries are within the limits of what is read.
     ensures rules { IfOk result (λ input. length (input_value input).rules ≤ RULES) }

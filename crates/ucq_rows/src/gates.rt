@@ -8,7 +8,7 @@ const TURNS: u32 = 10_000_000;
 
 /// Holds the worker that passes with one row until a worker has passed with another row.
 #[derive(Drop)]
-pub struct HoldingGate {
+pub(crate) struct HoldingGate {
     held: u32,
     awaited: u32,
     was_held: AtomicBool,
@@ -18,7 +18,7 @@ pub struct HoldingGate {
 }
 
 impl HoldingGate {
-    pub fn new(held: u32, awaited: u32) -> HoldingGate {
+    pub(crate) fn new(held: u32, awaited: u32) -> HoldingGate {
         HoldingGate {
             held,
             awaited,
@@ -29,7 +29,7 @@ impl HoldingGate {
     }
 
     /// Whether both rows passed, the held one after the other.
-    pub fn is_passed(&self) -> bool {
+    pub(crate) fn is_passed(&self) -> bool {
         self.was_held.load(Ordering::SeqCst)
             && self.has_passed.load(Ordering::SeqCst)
             && !self.is_spent.load(Ordering::SeqCst)

@@ -9,7 +9,7 @@ use ucq_run::{run, run_alone};
 
 /// What a run answered, printed and told.
 #[derive(Drop)]
-pub struct Told {
+pub(crate) struct Told {
     pub status: u8,
     pub out: Vec<u8>,
     pub err: Vec<u8>,
@@ -17,14 +17,14 @@ pub struct Told {
 
 impl Told {
     /// Whether the run ended so.
-    pub fn is(&self, status: u8, out: &str, err: &str) -> bool {
+    pub(crate) fn is(&self, status: u8, out: &str, err: &str) -> bool {
         self.status == status
             && self.out.as_slice() == out.as_bytes()
             && self.err.as_slice() == err.as_bytes()
     }
 
     /// Whether the run ended with this status, and its output begins so.
-    pub fn begins(&self, status: u8, beginning: &str) -> bool {
+    pub(crate) fn begins(&self, status: u8, beginning: &str) -> bool {
         self.status == status && self.out.as_slice().starts_with(beginning.as_bytes())
     }
 }
@@ -68,7 +68,7 @@ fn told_by(rt: &impl Abort, alloc: Global, status: u8, out: &MemorySink, err: &M
 }
 
 /// Runs the words alone over these files. The calls of the shelf, of the output and of the error stream in the lists fail.
-pub fn run_failing(
+pub(crate) fn run_failing(
     rt: &impl Abort,
     alloc: Global,
     words: &str,
@@ -83,17 +83,22 @@ pub fn run_failing(
 }
 
 /// Runs the words alone over these files.
-pub fn run_over(rt: &impl Abort, alloc: Global, words: &str, files: &[(&str, &[u8])]) -> Told {
+pub(crate) fn run_over(
+    rt: &impl Abort,
+    alloc: Global,
+    words: &str,
+    files: &[(&str, &[u8])],
+) -> Told {
     run_failing(rt, alloc, words, files, (&[], &[], &[]))
 }
 
 /// Runs the words alone over one file, `f`.
-pub fn run_on(rt: &impl Abort, alloc: Global, words: &str, file: &[u8]) -> Told {
+pub(crate) fn run_on(rt: &impl Abort, alloc: Global, words: &str, file: &[u8]) -> Told {
     run_over(rt, alloc, words, &[("f", file)])
 }
 
 /// Runs the words over one file, `f`, with workers that pass the gate.
-pub fn run_crew<R: Threads + Wait + Sync + Abort, G: Gate + Sync>(
+pub(crate) fn run_crew<R: Threads + Wait + Sync + Abort, G: Gate + Sync>(
     rt: &R,
     alloc: Global,
     words: &str,
@@ -116,7 +121,7 @@ pub fn run_crew<R: Threads + Wait + Sync + Abort, G: Gate + Sync>(
 }
 
 /// Runs the words over one file, `f`, with workers that nothing holds.
-pub fn run_open<R: Threads + Wait + Sync + Abort>(
+pub(crate) fn run_open<R: Threads + Wait + Sync + Abort>(
     rt: &R,
     alloc: Global,
     words: &str,
@@ -126,7 +131,7 @@ pub fn run_open<R: Threads + Wait + Sync + Abort>(
 }
 
 /// Whether a run of these words over the file ends so.
-pub fn ends(
+pub(crate) fn ends(
     rt: &impl Abort,
     alloc: Global,
     words: &str,
@@ -139,7 +144,7 @@ pub fn ends(
 }
 
 /// Whether a run of these words over the file ends with this status, and its output begins so.
-pub fn begins(
+pub(crate) fn begins(
     rt: &impl Abort,
     alloc: Global,
     words: &str,

@@ -10,9 +10,9 @@ use Rattle.ucq_chase.proofs.Kept.{numbering_keeps_exact}
 use Rattle.ucq_chase.proofs.Unions.{exact_is_unique}
 use Rattle.ucq_reader.specs.declared.input.Asked.{Asked}
 use Rattle.ucq_reader.specs.Meaning.{SymbolAsked}
-use Rattle.ucq_reader.specs.Input.{InputValue, IsAskedOf, IsInput, IsNumbered}
+use Rattle.ucq_reader.specs.Input.{InputValue, IsAskedOf, IsInput, HasNumbersOf}
 use Rattle.ucq_reader.specs.Made.{made}
-use Rattle.ucq_print.specs.Laws.{AreReadable, ArePrintable, ArePrintableTuples, HeaderIsLine, HeadersAreNoAnswers, SectionsAreTold, TextsAreSections, TextsDiffer}
+use Rattle.ucq_print.specs.Laws.{AreReadableNames, ArePrintable, ArePrintableTuples, HeaderIsLine, HeadersAreNoAnswers, SectionsAreTold, TextsAreSections, TextsDiffer}
 use Rattle.ucq_print.specs.Texts.{lines_text, answer_lines, answered_text, atom_count, finished_text, summary_text}
 use Rattle.ucq_print.proofs.InputNames.{input_names}
 use Rattle.ucq_print.proofs.Unions.{answered_apart, answered_shape, beginning_apart}
@@ -106,7 +106,7 @@ job_named one call settings input texts asked told =
 -- ---- what a section tells
 
 -- what is printed of a finished union of files begins with the finished text
-begins_so : (answers : Bool) (job : JobValue) (names : List (List ℕ)) (q : Question) (union : List Query) (text : List ℕ) → job ≡ files names → AreReadable q.names →
+begins_so : (answers : Bool) (job : JobValue) (names : List (List ℕ)) (q : Question) (union : List Query) (text : List ℕ) → job ≡ files names → AreReadableNames q.names →
     IsPrintedIn (job_form answers job) q union text → (rest : List ℕ) × (text ≡ finished_text q.names union ++ rest)
 begins_so answers (make number) names q union text e readable printed = absurd cc
 begins_so true (files given) names q union text e readable (tuples, are, held, is) = (lines_text (answer_lines q.names tuples), is ∙ answered_shape q.names readable union tuples)
@@ -308,7 +308,7 @@ module _ (one : OneSettings) (told : SectionsAreTold) (sections : TextsAreSectio
 -- ---- made inputs
 
 -- one query is asked of what is made
-made_query : (number : ℕ) (input : InputValue) → IsNumbered (made number) input → (asked : Asked) × (input.queries ≡ asked ∷ [])
+made_query : (number : ℕ) (input : InputValue) → HasNumbersOf (made number) input → (asked : Asked) × (input.queries ≡ asked ∷ [])
 made_query number input h = go (made number).queries input.queries refl h.queries
   where
     go : (ms : List SymbolAsked) (qs : List Asked) → length ms ≡ 1 → AllZip (IsAskedOf input.names) ms qs → (asked : Asked) × (qs ≡ asked ∷ [])
@@ -336,7 +336,7 @@ only_finished settings input asked texts e are none =
 -- what a finished run on a made input prints
 record HasCounted (number : ℕ) (text : List ℕ) : Type 0 where
   input : InputValue
-  numbered : IsNumbered (made number) input
+  numbered : HasNumbersOf (made number) input
   asked : Asked
   query : input.queries ≡ asked ∷ []
   union : List Query
@@ -354,7 +354,7 @@ counted_so : (answers : Bool) (job : JobValue) (number : ℕ) (held : List ℕ �
 counted_so answers (files names) number held input budget text e has finished = absurd cc
 counted_so answers (make other) number held input budget text e has finished =
     let same : other ≡ number = cc in
-    let numbered : IsNumbered (made number) input = subst (λ (n : ℕ). IsNumbered (made n) input) same has in
+    let numbered : HasNumbersOf (made number) input = subst (λ (n : ℕ). HasNumbersOf (made n) input) same has in
     let (asked, query) = made_query number input numbered in
     let f = finished asked query in
     let (once, (tuples, are, is)) = f.printed in

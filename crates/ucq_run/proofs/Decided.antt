@@ -5,7 +5,7 @@ use Rattle.std.specs.Prelude.{Option, Some, None, IfSome, Ok, Err, slice_get, Al
 use Rattle.std.specs.List.{AllZip}
 use Rattle.ucq_outside.specs.Causes.{Rose}
 use Rattle.ucq_reader.specs.declared.ReadFault.{ReadFault}
-use Rattle.ucq_reader.specs.Input.{InputValue, IsInput, IsNumbered, IsRefused}
+use Rattle.ucq_reader.specs.Input.{InputValue, IsInput, HasNumbersOf, IsRefused}
 use Rattle.ucq_reader.specs.Made.{made}
 use Rattle.ucq_reader.specs.Outcome.{byte_count}
 use Rattle.ucq_reader.proofs.Refusals.{meaning_unique}
@@ -13,7 +13,7 @@ use Rattle.ucq_words.specs.Settings.{JobValue, files, make, SettingsValue, Stand
 use Rattle.ucq_run.specs.declared.outcome.Outcome.{Outcome}
 use Rattle.ucq_run.specs.declared.outcome.Outcome.TheVariants.{Finished, Cut, NoMemory, BadWords, ReadFault as ReadFaultAt, TooLong, Refused, WriteFault}
 use Rattle.ucq_run.specs.Outcomes.{status_of}
-use Rattle.ucq_run.specs.Inputs.{Call, AreRead, IsAsked, IsInputOf, IsReadInput}
+use Rattle.ucq_run.specs.Inputs.{Call, AreFileTexts, IsAsked, IsInputOf, IsReadInput}
 use Rattle.ucq_run.specs.Causes.{AreRefusedFor, IsCause, IsTooLong, NameFiles}
 use Rattle.ucq_outside.specs.Taken.{SinkChange}
 use Rattle.ucq_run.specs.Printed.{PrintsAsked, Prints}
@@ -99,7 +99,7 @@ module _ (one : OneSettings) where
       absurd cc
 
   -- the texts that were read are those that are told
-  read_are_told : (call : Call) (names xs texts : List (List ℕ)) → NameFiles call.words names → AreRead call.held names xs → HoldsFiles call texts → xs ≡ texts
+  read_are_told : (call : Call) (names xs texts : List (List ℕ)) → NameFiles call.words names → AreFileTexts call.held names xs → HoldsFiles call texts → xs ≡ texts
   read_are_told call names xs texts named read told =
       let same : names ≡ told.names = one_names call.words names told.names named told.named in
       all_told call.held told.names xs texts (subst (λ (ns : List (List ℕ)). AllZip (λ (name text : List ℕ). IfSome (call.held name) (λ file. text ≡ file)) ns xs) same read.told) told.held
@@ -250,8 +250,8 @@ module _ (one : OneSettings) where
       not_cut (status_of o) (λ e.
       let (p, isnt) = cut_was_short call out o e prints in
       let same : settings ≡ p.settings = one call.words settings p.settings enough.stand p.asked.stand in
-      let here : IsNumbered (made number) input = subst (λ (j : JobValue). IsInputOf call.held j input) job is in
-      let asked : IsNumbered (made number) p.input = subst (λ (j : JobValue). IsInputOf call.held j p.input) (sym (ap (λ (s : SettingsValue). s.job) same) ∙ job) p.asked.has in
+      let here : HasNumbersOf (made number) input = subst (λ (j : JobValue). IsInputOf call.held j input) job is in
+      let asked : HasNumbersOf (made number) p.input = subst (λ (j : JobValue). IsInputOf call.held j p.input) (sym (ap (λ (s : SettingsValue). s.job) same) ∙ job) p.asked.has in
       isnt (enough_of_input p.settings input p.input (same_input (made number) input p.input here asked)
       (subst (λ (s : SettingsValue). All HasEnoughFor (parts_of s input)) same enough.enough)))
       (only_made call out o settings number enough.stand job sure cause prints)

@@ -8,7 +8,7 @@ use Rattle.std.specs.Option.{option_map}
 use Rattle.ucq_reader.specs.Outcome.{byte_count}
 use Rattle.ucq_run.specs.declared.outcome.Outcome.{Outcome}
 use Rattle.ucq_run.specs.declared.outcome.Outcome.TheVariants.{Finished, Cut, NoMemory, BadWords, ReadFault as ReadFaultAt, TooLong, Refused, WriteFault}
-use Rattle.ucq_run.specs.Inputs.{AreRead}
+use Rattle.ucq_run.specs.Inputs.{AreFileTexts}
 use Rattle.ucq_run.specs.Causes.{HaveCause, IsRefusal, IsUnreadAt}
 
 pub byte_count-more : (texts : List (List ℕ)) (text : List ℕ) → byte_count (texts ++ text ∷ []) ≡ byte_count texts + length text
@@ -22,8 +22,8 @@ mapped_at f xs i x y inside is value =
     slice_get-map f xs i ∙ ap (option_map f) (slice_get-get_or xs i x inside) ∙ ap (λ z. Some (f z)) (sym is) ∙ ap Some (sym value)
 
 pub one_more_read : (held : List ℕ → Option (List ℕ)) (names texts : List (List ℕ)) (file : ℕ) (name text : List ℕ) →
-    slice_get names file ≡ Some name → AreRead held (take file names) texts → IfSome (held name) (λ file. text ≡ file) → byte_count texts + length text ≤ 2 ^ 26 →
-    AreRead held (take (file + 1) names) (texts ++ text ∷ [])
+    slice_get names file ≡ Some name → AreFileTexts held (take file names) texts → IfSome (held name) (λ file. text ≡ file) → byte_count texts + length text ≤ 2 ^ 26 →
+    AreFileTexts held (take (file + 1) names) (texts ++ text ∷ [])
 one_more_read held names texts file name text at read told short = record {
   told = all_zip_more (λ (name text : List ℕ). IfSome (held name) (λ file. text ≡ file)) names texts file name text (slice_get_within names file name at) (sym (get_or_from_slice_get names file name name at)) read.told told;
   short = let e = byte_count-more texts text in omega (arith, e, short);
@@ -31,7 +31,7 @@ one_more_read held names texts file name text at read told short = record {
 
 -- why a file wasn't read is why none of them stand for an input
 pub unread_is_cause : (held : List ℕ → Option (List ℕ)) (names texts : List (List ℕ)) (file : ℕ) (name : List ℕ) (before middle after : ℕ) (outcome : Outcome) →
-    slice_get names file ≡ Some name → AreRead held (take file names) texts → before ≤ middle → IsUnreadAt file (held name) (byte_count texts) middle after outcome →
+    slice_get names file ≡ Some name → AreFileTexts held (take file names) texts → before ≤ middle → IsUnreadAt file (held name) (byte_count texts) middle after outcome →
     HaveCause held names before after outcome
 unread_is_cause held names texts file name before middle after NoMemory at read later cause = tt
 unread_is_cause held names texts file name before middle after (ReadFaultAt number place) at read later cause = (
@@ -40,7 +40,7 @@ unread_is_cause held names texts file name before middle after (ReadFaultAt numb
 )
 unread_is_cause held names texts file name before middle after (TooLong number) at read later cause = record {
   before = texts;
-  read = subst (λ (n : ℕ). AreRead held (take n names) texts) (sym cause.0) read;
+  read = subst (λ (n : ℕ). AreFileTexts held (take n names) texts) (sym cause.0) read;
   name = name;
   named = subst (λ (n : ℕ). slice_get names n ≡ Some name) (sym cause.0) at;
   long = cause.1;
@@ -53,7 +53,7 @@ unread_is_cause held names texts file name before middle after WriteFault at rea
 
 -- a refusal of all files that were read
 pub refusal_is_cause : (held : List ℕ → Option (List ℕ)) (names texts : List (List ℕ)) (before after : ℕ) (outcome : Outcome) →
-    AreRead held names texts → IsRefusal texts outcome → HaveCause held names before after outcome
+    AreFileTexts held names texts → IsRefusal texts outcome → HaveCause held names before after outcome
 refusal_is_cause held names texts before after NoMemory read refused = tt
 refusal_is_cause held names texts before after (Refused fault) read refused = record { texts = texts; read = read; refused = refused }
 refusal_is_cause held names texts before after (ReadFaultAt number place) read refused = absurd refused

@@ -14,7 +14,7 @@ use Rattle.ucq_store.specs.Laws.{IsCoveredByLevels, IsEnough}
 use Rattle.ucq_reader.specs.declared.ReadFault.{ReadFault}
 use Rattle.ucq_reader.specs.declared.input.Asked.{Asked}
 use Rattle.ucq_reader.specs.Meaning.{Meant, SymbolAsked, SymbolQuery}
-use Rattle.ucq_reader.specs.Input.{InputValue, IsAskedOf, IsInput, IsNumbered, IsQueryOf, rule_value}
+use Rattle.ucq_reader.specs.Input.{InputValue, IsAskedOf, IsInput, HasNumbersOf, IsQueryOf, rule_value}
 use Rattle.ucq_reader.proofs.Refusals.{meaning_unique}
 use Rattle.ucq_words.specs.Settings.{SettingsValue}
 use Rattle.ucq_run.specs.Inputs.{problem_of}
@@ -103,7 +103,7 @@ pub record AreSameInput (a b : InputValue) : Type 0 where
   pub rules : a.rules ≡ b.rules
   pub queries : AllZip AreSameAsked a.queries b.queries
 
-pub same_input : (meant : Meant) (a b : InputValue) → IsNumbered meant a → IsNumbered meant b → AreSameInput a b
+pub same_input : (meant : Meant) (a b : InputValue) → HasNumbersOf meant a → HasNumbersOf meant b → AreSameInput a b
 same_input meant a b h k =
     let names : a.names ≡ b.names = h.names ∙ sym k.names in
     record {
@@ -154,11 +154,11 @@ one_meant a b e = cc
 pub same_of_files : (texts : List (List ℕ)) (a b : InputValue) → IsInput texts a → IsInput texts b → AreSameInput a b
 same_of_files texts a b h k =
     let same : h.0 ≡ k.0 = one_meant h.0 k.0 (meaning_unique texts (stands_for h.0) (stands_for k.0) h.1 k.1) in
-    same_input k.0 a b (subst (λ (m : Meant). IsNumbered m a) same h.2) k.2
+    same_input k.0 a b (subst (λ (m : Meant). HasNumbersOf m a) same h.2) k.2
 
 -- and so the answers of their problems are the same, whatever the numbers of their unknown values
 pub answers_of_files : (texts : List (List ℕ)) (a b : InputValue) (p r : Problem) (union : List Query) (tuples : List (List ℕ)) → IsInput texts a → IsInput texts b →
     IsExact p union → IsExact r union → AreChaseAnswers a.names p a.facts tuples → AreChaseAnswers b.names r b.facts tuples
 answers_of_files texts a b p r union tuples h k of_p of_r answers =
     let same : h.0 ≡ k.0 = one_meant h.0 k.0 (meaning_unique texts (stands_for h.0) (stands_for k.0) h.1 k.1) in
-    answers_move k.0 a b p r union tuples (subst (λ (m : Meant). IsNumbered m a) same h.2) k.2 of_p of_r answers
+    answers_move k.0 a b p r union tuples (subst (λ (m : Meant). HasNumbersOf m a) same h.2) k.2 of_p of_r answers

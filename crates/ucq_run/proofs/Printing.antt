@@ -14,7 +14,7 @@ use Rattle.ucq_chase.specs.Names.{IsHeldProblem}
 use Rattle.ucq_antichain.specs.declared.Row.{Row}
 use Rattle.ucq_antichain.specs.Rows.{live_queries, no_row}
 use Rattle.ucq_store.specs.Store.{Store, query_of, IsCut}
-use Rattle.ucq_store.specs.Lawful.{IsLawful, IsLawfulByLevels, HasCause}
+use Rattle.ucq_store.specs.Lawful.{IsLawful, IsLawfulByLevels, HasCutCause}
 use Rattle.ucq_store.specs.Laws.{CutListing, EnoughBudget, IsEnough}
 use Rattle.ucq_store.proofs.Listing.{cut_listing}
 use Rattle.ucq_store.proofs.Live.{live_is_row, member_is_live}
@@ -91,7 +91,7 @@ cut_says : CutListing → (names : List (List ℕ)) (s : Store) → IsLawful s �
     IsCutText names s.problem s.budget (lines_text (cut_lines names s))
 cut_says listing names s lawful held cut = go s.cut cut lawful.cut_has_cause
   where
-    go : (c : Option StoreCut) → IsSome c → HasCause s c → IsCutText names s.problem s.budget (lines_text (lines_of_cut names s.budget s.rows c))
+    go : (c : Option StoreCut) → IsSome c → HasCutCause s c → IsCutText names s.problem s.budget (lines_text (lines_of_cut names s.budget s.rows c))
     go None some cause = absurd cc
     go (Some (Rows left)) some cause = inl (record {
       rows = s.rows;

@@ -10,7 +10,7 @@ use Rattle.std.specs.Prelude.{Option, Some, slice_get}
 use Rattle.ucq_terms.specs.Syntax.{Query}
 use Rattle.ucq_reader.specs.declared.input.Asked.{Asked}
 use Rattle.ucq_reader.specs.Input.{InputValue}
-use Rattle.ucq_print.specs.Laws.{AreReadable, ArePrintable, AreSectionLines, Headed, headed_lines, HeaderIsLine, IsHeaded, IsLabelLine, IsLine, SectionsAreTold, TextsAreSections}
+use Rattle.ucq_print.specs.Laws.{AreReadableNames, ArePrintable, AreSectionLines, Headed, headed_lines, HeaderIsLine, IsHeaded, IsLabelLine, IsLine, SectionsAreTold, TextsAreSections}
 use Rattle.ucq_print.specs.Texts.{answered_lines, finished_lines, lines_text, rows_cut_lines, section_line, wide_cut_lines}
 use Rattle.ucq_words.specs.Settings.{JobValue, files, make, SettingsValue}
 use Rattle.ucq_run.specs.Cuts.{IsCutText}
@@ -140,7 +140,7 @@ record IsHeadedSection (C : Bool → Type 0) (settings : SettingsValue) (input :
 pub record IsOfFiles (settings : SettingsValue) (input : InputValue) : Type 0 where
   pub given : List (List ℕ)
   pub job : settings.job ≡ files given
-  pub readable : AreReadable input.names
+  pub readable : AreReadableNames input.names
   pub budget : settings.budget ≤ 65536
   pub rules : length input.rules ≤ 4096
   pub queries : length input.queries ≤ 64
@@ -150,7 +150,7 @@ module _ (sections : TextsAreSections) (C : Bool → Type 0) (settings : Setting
   abbrev question : Asked → Question
   question asked = question_of settings input asked.query
 
-  finished_has_lines : (answers : Bool) (j : JobValue) (given : List (List ℕ)) (q : Question) (union : List Query) (text : List ℕ) → j ≡ files given → AreReadable q.names →
+  finished_has_lines : (answers : Bool) (j : JobValue) (given : List (List ℕ)) (q : Question) (union : List Query) (text : List ℕ) → j ≡ files given → AreReadableNames q.names →
       ArePrintable q.names union → IsPrintedIn (job_form answers j) q union text → HasLines text
   finished_has_lines answers (make number) given q union text e clear printable printed = absurd cc
   finished_has_lines true (files names) given q union text e clear printable (tuples, are, held, is) =

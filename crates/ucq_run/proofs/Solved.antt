@@ -9,7 +9,7 @@ use Rattle.ucq_eval.specs.Laws.{AnswersAreChaseAnswers}
 use Rattle.ucq_print.specs.Laws.{ArePrintable, ArePrintableTuples}
 use Rattle.ucq_run.specs.declared.request.Shared.{Shared}
 use Rattle.ucq_run.specs.declared.form.Form.TheVariants.{Queries}
-use Rattle.ucq_run.specs.inner.Request.{IsAbout}
+use Rattle.ucq_run.specs.inner.Request.{AsksAbout}
 use Rattle.ucq_run.specs.Finished.{AreChaseAnswers}
 use Rattle.ucq_run.specs.inner.Solved.{HasAnswers}
 use Rattle.ucq_run.proofs.AnswerNames.{printed_answers}
@@ -31,7 +31,7 @@ has_none a s found none names = record {
 }
 
 -- the answers that were found over the index are those of the chase over the facts
-pub solved_answers : AnswersAreChaseAnswers → (a : Shared) (p : Problem) (facts : List Atom) (union : List Query) (tuples : List (List ℕ)) → IsAbout a facts → IsExact p union →
+pub solved_answers : AnswersAreChaseAnswers → (a : Shared) (p : Problem) (facts : List Atom) (union : List Query) (tuples : List (List ℕ)) → AsksAbout a facts → IsExact p union →
     ArePrintable a.names union → length tuples < 2 ^ 64 → a.form ≢ Queries → AreAnswers a.names union a.facts tuples →
     AreChaseAnswers a.names p facts tuples × ArePrintableTuples a.names tuples
 solved_answers law a p facts union tuples about exact printable few asks answers =

@@ -14,7 +14,7 @@ use Rattle.ucq_run.specs.declared.outcome.Outcome.TheVariants.{Finished, Cut, No
 use Rattle.ucq_run.specs.declared.request.Shared.{Shared}
 use Rattle.ucq_run.specs.Parts.{Part}
 use Rattle.ucq_run.specs.Printed.{PrintsFor, PrintsParts, ended}
-use Rattle.ucq_run.specs.inner.Request.{IsAbout, parts_for, problem_with, section_for}
+use Rattle.ucq_run.specs.inner.Request.{AsksAbout, parts_for, problem_with, section_for}
 use Rattle.ucq_run.proofs.InTurn.{next_part, parts_count, prints_section}
 use Rattle.ucq_run.proofs.PartTexts.{HasPrinted, IsUnfinished, all_printed, cut_more, finished_more, unfinished_ends}
 use Rattle.ucq_run.proofs.Written.{GoOn}
@@ -46,12 +46,12 @@ module _ (s : Shared) (rules : List Rule) (all : List Asked) where
     pub place : number ≡ length done
     pub split : done ++ left ≡ all
     pub same_rules : now ≡ rules
-    pub printed : (facts : List Atom) → IsAbout s facts → HasPrinted (parts_for s rules all facts) number out cut
+    pub printed : (facts : List Atom) → AsksAbout s facts → HasPrinted (parts_for s rules all facts) number out cut
     pub later : out.faults_before ≤ out.faults_after
 
   -- the next query is solved under the rules, and its section is printed so
   pub record IsTurn (number : ℕ) (asked : Asked) (now kept : List Rule) (out : SinkChange) (o : Outcome) : Type 0 where
-    pub prints : (facts : List Atom) → IsAbout s facts → PrintsFor (section_for s now all facts (number, asked)) out o
+    pub prints : (facts : List Atom) → AsksAbout s facts → PrintsFor (section_for s now all facts (number, asked)) out o
     pub same_rules : kept ≡ now
     pub later : out.faults_before ≤ out.faults_after
 
@@ -71,13 +71,13 @@ module _ (s : Shared) (rules : List Rule) (all : List Asked) where
       at : (facts : List Atom) → slice_get (parts_for s rules all facts) number ≡ Some (section_for s rules all facts (number, asked))
       at facts = next_part s rules all facts done rest asked number so.place split_next
 
-      prints : (facts : List Atom) → IsAbout s facts → PrintsFor (section_for s rules all facts (number, asked)) second o
+      prints : (facts : List Atom) → AsksAbout s facts → PrintsFor (section_for s rules all facts (number, asked)) second o
       prints facts about = prints_section s rules all facts number asked now second o so.same_rules (turn.prints facts about)
 
       pub both_later : (over_both first second).faults_before ≤ (over_both first second).faults_after
       both_later = omega (arith, so.later, turn.later, follows.faults)
 
-      done_so : (more : Bool) → ((facts : List Atom) → IsAbout s facts → HasPrinted (parts_for s rules all facts) (number + 1) (over_both first second) more) →
+      done_so : (more : Bool) → ((facts : List Atom) → AsksAbout s facts → HasPrinted (parts_for s rules all facts) (number + 1) (over_both first second) more) →
           AreDone (done ++ asked ∷ []) rest kept (number + 1) more (over_both first second)
       done_so more printed = record {
         place = omega (arith, so.place, length-append done (asked ∷ []));
@@ -98,14 +98,14 @@ module _ (s : Shared) (rules : List Rule) (all : List Asked) where
           (so.printed facts about) (subst (λ (o : Outcome). PrintsFor (section_for s rules all facts (number, asked)) second o) e (prints facts about)))
 
       -- a section that isn't printed whole ends the loop
-      pub turn_ends : (o ≢ Finished) → (o ≢ Cut) → (facts : List Atom) → IsAbout s facts → PrintsParts (parts_for s rules all facts) (over_both first second) o
+      pub turn_ends : (o ≢ Finished) → (o ≢ Cut) → (facts : List Atom) → AsksAbout s facts → PrintsParts (parts_for s rules all facts) (over_both first second) o
       turn_ends a b facts about =
           unfinished_ends (parts_for s rules all facts) number (section_for s rules all facts (number, asked)) first second cut o (at facts)
           (record { follows = follows; later = so.later; later_still = turn.later }) (so.printed facts about) (prints facts about) (is_unfinished o a b)
 
   -- all queries are done
   pub loop_ends : (done left : List Asked) (now : List Rule) (number : ℕ) (cut : Bool) (out : SinkChange) → AreDone done left now number cut out → left ≡ [] →
-      (facts : List Atom) → IsAbout s facts → PrintsParts (parts_for s rules all facts) out (ended cut)
+      (facts : List Atom) → AsksAbout s facts → PrintsParts (parts_for s rules all facts) out (ended cut)
   loop_ends done left now number cut out so none facts about =
       let whole : done ≡ all = sym (append-nil done) ∙ (ap (λ (l : List Asked). done ++ l) (sym none) ∙ so.split) in
       let count : number ≡ length (parts_for s rules all facts) = so.place ∙ (ap length whole ∙ sym (parts_count s rules all facts)) in

@@ -15,7 +15,7 @@ use Rattle.ucq_terms.proofs.Lists.{Any-contains, Contains-cons_cases, Contains-e
 use Rattle.ucq_terms.proofs.Zips.{Contains-from_enumerate}
 use Rattle.ucq_chase.proofs.Replay.{sound_is_carried}
 use Rattle.ucq_reader.specs.Meaning.{Symbol, constant, variable, SymbolAtom, Meant}
-use Rattle.ucq_reader.specs.Input.{terms_in, term_value, atom_value, StandsIn, InputValue, IsNumbered}
+use Rattle.ucq_reader.specs.Input.{terms_in, term_value, atom_value, StandsIn, InputValue, HasNumbersOf}
 use Rattle.ucq_eval.specs.Answers.{constants}
 use Rattle.ucq_eval.proofs.Sorting.{tuple_cmp_total}
 use Rattle.ucq_eval.proofs.Unique.{one_sorted_list}
@@ -112,7 +112,7 @@ abbrev fact_atoms : List (List ℕ) → (ℕ → List ℕ → ℕ) → ℕ × Li
 fact_atoms names unknown f = map (atom_value names (unknown f.0)) f.1
 
 -- the facts of the one map onto those of the other
-facts_move : (meant : Meant) (a b : InputValue) → IsNumbered meant a → IsNumbered meant b → (h : ℕ → Term) × IsSubset (atoms_image h a.facts) b.facts
+facts_move : (meant : Meant) (a b : InputValue) → HasNumbersOf meant a → HasNumbersOf meant b → (h : ℕ → Term) × IsSubset (atoms_image h a.facts) b.facts
 facts_move meant a b m n = (h, IsSubset-from_image h a.facts b.facts each)
   where
     all : List Unknown
@@ -169,7 +169,7 @@ answer_along p r union xs ys tuple h of_p of_r into answer =
     sound_is_carried r q ys (constants tuple) (All-contains (IsSound r) union q of_r.sound c) (maps_along q xs ys tuple h into m)
 
 -- the answers over the facts of the one are those over the facts of the other
-pub answers_move : (meant : Meant) (a b : InputValue) (p r : Problem) (union : List Query) (tuples : List (List ℕ)) → IsNumbered meant a → IsNumbered meant b →
+pub answers_move : (meant : Meant) (a b : InputValue) (p r : Problem) (union : List Query) (tuples : List (List ℕ)) → HasNumbersOf meant a → HasNumbersOf meant b →
     IsExact p union → IsExact r union → AreChaseAnswers a.names p a.facts tuples → AreChaseAnswers b.names r b.facts tuples
 answers_move meant a b p r union tuples m n of_p of_r answers =
     let forth = facts_move meant a b m n in

@@ -8,7 +8,7 @@ use Rattle.ucq_reader.specs.Outcome.{byte_count}
 use Rattle.ucq_words.specs.Settings.{JobValue, files, make, SettingsValue, StandFor}
 use Rattle.ucq_run.specs.declared.outcome.Outcome.{Outcome}
 use Rattle.ucq_run.specs.declared.outcome.Outcome.TheVariants.{NoMemory, BadWords, ReadFault as ReadFaultAt, TooLong, Refused}
-use Rattle.ucq_run.specs.Inputs.{Call, AreRead}
+use Rattle.ucq_run.specs.Inputs.{Call, AreFileTexts}
 
 -- the place is within the file of that number, where the shelf tells it
 pub record IsPlaceIn (held : List ℕ → Option (List ℕ)) (names : List (List ℕ)) (file at : ℕ) : Type 0 where
@@ -19,7 +19,7 @@ pub record IsPlaceIn (held : List ℕ → Option (List ℕ)) (names : List (List
 -- The files before that one were read, and with it they are too long together.
 pub record IsTooLong (held : List ℕ → Option (List ℕ)) (names : List (List ℕ)) (file : ℕ) : Type 0 where
   pub before : List (List ℕ)
-  pub read : AreRead held (take file names) before
+  pub read : AreFileTexts held (take file names) before
   pub name : List ℕ
   pub named : slice_get names file ≡ Some name
   pub long : IfSome (held name) (λ bytes. BYTES < byte_count before + length bytes)
@@ -27,7 +27,7 @@ pub record IsTooLong (held : List ℕ → Option (List ℕ)) (names : List (List
 -- all files were read, and the reader has that refusal
 pub record AreRefusedFor (held : List ℕ → Option (List ℕ)) (names : List (List ℕ)) (fault : ReadFault) : Type 0 where
   pub texts : List (List ℕ)
-  pub read : AreRead held names texts
+  pub read : AreFileTexts held names texts
   pub refused : IsRefused texts fault
 
 -- why the file of that number wasn't read, after so many bytes of the files before it

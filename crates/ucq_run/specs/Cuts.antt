@@ -2,7 +2,7 @@
 use Rattle.std.specs.Prelude.{◌≡◌, ◌<◌, ◌≤◌, ◌⊎◌, ℕ, List, length}
 use Rattle.ucq_terms.specs.Syntax.{Problem, Query}
 use Rattle.ucq_antichain.specs.declared.Row.{Row}
-use Rattle.ucq_store.specs.Lawful.{IsLeftOver, IsTooWide}
+use Rattle.ucq_store.specs.Lawful.{IsLeftOver, IsWideRow}
 use Rattle.ucq_store.specs.Laws.{IsCutListing, IsEnough}
 use Rattle.ucq_print.specs.Laws.{ArePrintableRows, IsPrintable}
 use Rattle.ucq_print.specs.Texts.{rows_cut_text, wide_cut_text}
@@ -28,7 +28,7 @@ pub record IsWideCutText (names : List (List ℕ)) (problem : Problem) (budget :
   pub width : ℕ
   pub listing : IsCutListing problem rows
   pub within : length rows ≤ budget
-  pub wide : IsTooWide problem.rules rows row rule width
+  pub wide : IsWideRow problem.rules rows row rule width
   pub rule_of : rule < length problem.rules
   pub printable : ArePrintableRows names rows
   pub printed : text ≡ wide_cut_text names row rule rows

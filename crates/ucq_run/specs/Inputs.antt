@@ -3,7 +3,7 @@ use Rattle.std.specs.Prelude.{◌≡◌, ◌≤◌, ℕ, Bool, true, false, List
 use Rattle.ucq_lexer.specs.declared.TheConstants.{BYTES}
 use Rattle.std.specs.List.{AllZip}
 use Rattle.ucq_terms.specs.Syntax.{Problem, Query}
-use Rattle.ucq_reader.specs.Input.{InputValue, IsInput, IsNumbered}
+use Rattle.ucq_reader.specs.Input.{InputValue, IsInput, HasNumbersOf}
 use Rattle.ucq_reader.specs.Outcome.{byte_count}
 use Rattle.ucq_reader.specs.Made.{made}
 use Rattle.ucq_words.specs.Settings.{JobValue, files, make, SettingsValue, StandFor}
@@ -21,20 +21,20 @@ abbrev pub call_of : List (List ℕ) → (List ℕ → Option (List ℕ)) → �
 call_of words held before after = record { words = words; held = held; faults_before = before; faults_after = after }
 
 -- The texts of the files with these names, in their order: as the shelf tells them, where it does, and not too long together.
-pub record AreRead (held : List ℕ → Option (List ℕ)) (names texts : List (List ℕ)) : Type 0 where
+pub record AreFileTexts (held : List ℕ → Option (List ℕ)) (names texts : List (List ℕ)) : Type 0 where
   pub told : AllZip (λ (name text : List ℕ). IfSome (held name) (λ file. text ≡ file)) names texts
   pub short : byte_count texts ≤ BYTES
 
 -- files were read that stand for the input
 pub record IsReadInput (held : List ℕ → Option (List ℕ)) (names : List (List ℕ)) (input : InputValue) : Type 0 where
   pub texts : List (List ℕ)
-  pub read : AreRead held names texts
+  pub read : AreFileTexts held names texts
   pub stands_for : IsInput texts input
 
 -- the input of a job: what its files stand for, or what is made for its number
 abbrev pub IsInputOf : (List ℕ → Option (List ℕ)) → JobValue → InputValue → Type 0
 IsInputOf held (files names) input = IsReadInput held names input
-IsInputOf held (make number) input = IsNumbered (made number) input
+IsInputOf held (make number) input = HasNumbersOf (made number) input
 
 -- 1 to 64 files, or a number of 1 to 4,000
 abbrev pub IsJobWithin : JobValue → Type 0

@@ -3,7 +3,7 @@ ghost use Rattle.std.specs.Prelude.{◌≡◌, ◌<◌, ◌≤◌, ◌+◌, ◌^
 ghost use Rattle.ucq_terms.specs.declared.TheConstants.{FACTS, QUERIES, RULES};
 ghost use Rattle.ucq_reader.specs.Outcome.{IsFault, byte_count, input_value, texts as texts_of};
 ghost use Rattle.ucq_words.specs.Settings.{job_value};
-ghost use Rattle.ucq_run.specs.Inputs.{AreRead, IsInputOf, IsJobWithin, IsReadInput};
+ghost use Rattle.ucq_run.specs.Inputs.{AreFileTexts, IsInputOf, IsJobWithin, IsReadInput};
 ghost use Rattle.ucq_run.specs.Causes.{HaveCause, IsJobCause, IsRefusal, IsUnreadAt};
 
 use crate::outcome::Outcome;
@@ -52,7 +52,7 @@ fn read_all<H: Shelf>(
     ensures files { MatchResult
         result
         (λ files.
-        AreRead (H.held shelf.old) (map string_bytes names.now) (texts_of files.items))
+        AreFileTexts (H.held shelf.old) (map string_bytes names.now) (texts_of files.items))
         (λ outcome.
         HaveCause (H.held shelf.old) (map string_bytes names.now) (H.faults shelf.old)
         (H.faults shelf.new) outcome) }

@@ -9,7 +9,7 @@ ghost use Rattle.ucq_store.specs.Lawful.{IsLawfulByLevels};
 ghost use Rattle.ucq_print.specs.Laws.{ArePrintable, ArePrintableTuples};
 ghost use Rattle.ucq_run.specs.declared.form.Form.{Form as FormValue};
 ghost use Rattle.ucq_run.specs.declared.form.Form.TheVariants.{Queries, Answers, Counts};
-ghost use Rattle.ucq_run.specs.inner.Request.{IsAbout, IsWithinLimits, question_in};
+ghost use Rattle.ucq_run.specs.inner.Request.{AsksAbout, IsWithinLimits, question_in};
 ghost use Rattle.ucq_run.specs.Finished.{AreChaseAnswers};
 ghost use Rattle.ucq_outside.specs.Taken.{change_of};
 ghost use Rattle.ucq_run.specs.Parts.{section};
@@ -221,7 +221,7 @@ pub fn print_section<K: Sink>(
     requires held { IsHeldProblem (length shared.now.names) solved.now.store.problem }
     requires solved { IsSolved shared.now solved.now.store.problem solved.now }
     ensures prints { (facts : List AtomValue) →
-        IsAbout shared.now facts →
+        AsksAbout shared.now facts →
         PrintsFor (section header.now (question_in shared.now solved.now.store.problem facts))
         (change_of (K.taken out.old) (K.taken out.new) (K.faults out.old) (K.faults out.new))
         result }

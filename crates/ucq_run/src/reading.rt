@@ -1,7 +1,7 @@
 //! The reading of whole files.
 ghost use Rattle.std.specs.Prelude.{◌≡◌, ◌≤◌, ◌^◌, ◌<◌, ℕ, List, length};
 ghost use Rattle.ucq_lexer.specs.declared.TheConstants.{BYTES};
-ghost use Rattle.ucq_run.specs.inner.Reading.{IsReading};
+ghost use Rattle.ucq_run.specs.inner.Reading.{IsFileRead};
 
 use std::alloc::Global;
 use ucq_outside::{Failed, Shelf};
@@ -25,8 +25,8 @@ pub fn read_file<H: Shelf>(
     room: usize,
 ) -> Result<Vec<u8>, Unread>
     requires { room ≤ BYTES }
-    ensures read { IsReading (H.held shelf.old name.now) (H.faults shelf.old) (H.faults shelf.new) room
-        result }
+    ensures read { IsFileRead (H.held shelf.old name.now) (H.faults shelf.old)
+        (H.faults shelf.new) room result }
     ensures held { (n : List ℕ) → H.held shelf.new n ≡ H.held shelf.old n }
     ensures later { H.faults shelf.old ≤ H.faults shelf.new }
 {

@@ -1,7 +1,7 @@
 //! From the words to what is asked.
 ghost use Rattle.std.specs.Prelude.{◌≤◌, map, string_bytes};
 ghost use Rattle.ucq_run.specs.Inputs.{call_of};
-ghost use Rattle.ucq_run.specs.inner.Request.{IsRead};
+ghost use Rattle.ucq_run.specs.inner.Request.{IsPrepared};
 
 use crate::form::{Form, form_of};
 use crate::inputs::input_of;
@@ -35,7 +35,7 @@ pub struct Request {
 
 /// Reads the words and the files that they name, or makes their input. Without an input the outcome says why.
 pub fn prepare<H: Shelf>(alloc: Global, words: &[String], shelf: &mut H) -> Result<Request, Outcome>
-    ensures read { IsRead
+    ensures read { IsPrepared
         (call_of
         (map string_bytes words.now)
         (H.held shelf.old)

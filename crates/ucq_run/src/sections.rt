@@ -7,7 +7,7 @@ ghost use Rattle.ucq_outside.specs.Taken.{change_of};
 ghost use Rattle.ucq_reader.specs.declared.input.Asked.{Asked as AskedValue};
 ghost use Rattle.ucq_run.specs.Parts.{header_of, section};
 ghost use Rattle.ucq_run.specs.Printed.{PrintsFor, PrintsParts, ended};
-ghost use Rattle.ucq_run.specs.inner.Request.{AreWithinLimits, IsAbout, IsWithinLimits, parts_for, parts_in, problem_with, question_in, section_for};
+ghost use Rattle.ucq_run.specs.inner.Request.{AreWithinLimits, AsksAbout, IsWithinLimits, parts_for, parts_in, problem_with, question_in, section_for};
 ghost use Rattle.ucq_run.specs.inner.Solved.{IsSolved};
 
 use crate::outcome::Outcome;
@@ -50,7 +50,7 @@ fn print_solved<K: Sink>(
     requires solved { IfOk solved (λ s. IsSolved shared.now s.store.problem s) }
     ensures prints { (problem : ProblemValue) (facts : List AtomValue) →
         IfOk solved.entry (λ s. s.store.problem ≡ problem) →
-        IsAbout shared.now facts →
+        AsksAbout shared.now facts →
         PrintsFor (section header.now (question_in shared.now problem facts))
         (change_of (K.taken out.old) (K.taken out.new) (K.faults out.old) (K.faults out.new))
         result }
@@ -84,7 +84,7 @@ fn print_query_alone<K: Sink>(
     requires held { IsHeldProblem (length shared.now.names) (problem_with rules.items asked.query) }
     ensures prints { (all : List AskedValue) (facts : List AtomValue) →
         IsTrue alone ↔ (length all ≡ 1) →
-        IsAbout shared.now facts →
+        AsksAbout shared.now facts →
         PrintsFor (section_for shared.now rules.items all facts (number, asked))
         (change_of (K.taken out.old) (K.taken out.new) (K.faults out.old) (K.faults out.new))
         result.0 }
@@ -118,7 +118,7 @@ fn print_query_by_crew<G: Gate + Sync, R: Threads + Wait + Sync, K: Sink>(
     requires held { IsHeldProblem (length shared.now.names) (problem_with rules.items asked.query) }
     ensures prints { (all : List AskedValue) (facts : List AtomValue) →
         IsTrue alone ↔ (length all ≡ 1) →
-        IsAbout shared.now facts →
+        AsksAbout shared.now facts →
         PrintsFor (section_for shared.now rules.items all facts (number, asked))
         (change_of (K.taken out.old) (K.taken out.new) (K.faults out.old) (K.faults out.new))
         result.0 }
@@ -139,7 +139,7 @@ fn print_query_by_crew<G: Gate + Sync, R: Threads + Wait + Sync, K: Sink>(
 pub fn print_alone<K: Sink>(alloc: Global, request: Request, out: &mut K) -> Outcome
     requires within { AreWithinLimits request }
     ensures prints { (facts : List AtomValue) →
-        IsAbout request.shared facts →
+        AsksAbout request.shared facts →
         PrintsParts (parts_in request facts)
         (change_of (K.taken out.old) (K.taken out.new) (K.faults out.old) (K.faults out.new))
         result }
@@ -169,7 +169,7 @@ fn print_all_alone<K: Sink>(
         (problem_with rules.items asked.query))
         queries.items }
     ensures prints { (facts : List AtomValue) →
-        IsAbout shared.now facts →
+        AsksAbout shared.now facts →
         PrintsParts (parts_for shared.now rules.items queries.items facts)
         (change_of (K.taken out.old) (K.taken out.new) (K.faults out.old) (K.faults out.new))
         result }
@@ -201,7 +201,7 @@ pub fn print_by_crew<G: Gate + Sync, R: Threads + Wait + Sync, K: Sink>(
 ) -> Outcome
     requires within { AreWithinLimits request }
     ensures prints { (facts : List AtomValue) →
-        IsAbout request.shared facts →
+        AsksAbout request.shared facts →
         PrintsParts (parts_in request facts)
         (change_of (K.taken out.old) (K.taken out.new) (K.faults out.old) (K.faults out.new))
         result }
@@ -233,7 +233,7 @@ fn print_all_by_crew<G: Gate + Sync, R: Threads + Wait + Sync, K: Sink>(
         (problem_with rules.items asked.query))
         queries.items }
     ensures prints { (facts : List AtomValue) →
-        IsAbout shared.now facts →
+        AsksAbout shared.now facts →
         PrintsParts (parts_for shared.now rules.items queries.items facts)
         (change_of (K.taken out.old) (K.taken out.new) (K.faults out.old) (K.faults out.new))
         result }

@@ -3,7 +3,7 @@ ghost use Rattle.std.specs.Prelude.{◌≡◌, ◌≤◌, ◌++◌, ℕ, List, I
 ghost use Rattle.ucq_outside.specs.Causes.{Rose};
 ghost use Rattle.ucq_outside.specs.Taken.{change_of};
 ghost use Rattle.ucq_print.specs.Texts.{lines_text};
-ghost use Rattle.ucq_run.specs.inner.Reading.{IsPushed, IsWritten};
+ghost use Rattle.ucq_run.specs.inner.Reading.{TookText, IsWritten};
 
 use crate::texts::Text;
 use std::alloc::Global;
@@ -21,7 +21,7 @@ pub enum Unwritten {
 
 /// Pushes a line until it is taken whole.
 pub fn write_line<K: Sink>(sink: &mut K, line: &[u8]) -> Result<(), Failed>
-    ensures taken { IsPushed
+    ensures taken { TookText
         (change_of (K.taken sink.old) (K.taken sink.new) (K.faults sink.old) (K.faults sink.new))
         line.now result }
     ensures later { K.faults sink.old ≤ K.faults sink.new }

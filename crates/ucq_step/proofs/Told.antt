@@ -20,7 +20,7 @@ use Rattle.ucq_terms.proofs.Subsets.{IsSameSet-refl}
 use Rattle.ucq_join.specs.Names.{Named, name_of}
 use Rattle.ucq_join.specs.Walk.{ArePieces, piece_member, members_at}
 use Rattle.ucq_join.proofs.Sets.{members_few}
-use Rattle.ucq_step.specs.inner.Building.{side_name, copies_named, pairs_at, rewriting_of, IsTold}
+use Rattle.ucq_step.specs.inner.Building.{side_name, copies_named, pairs_at, rewriting_of, TellsMembers}
 use Rattle.ucq_step.specs.Steps.{IsTooWide, IsRewrittenAt}
 use Rattle.ucq_step.specs.declared.rewriting.Side.TheVariants.{OfQuery, OfCopy}
 use Rattle.ucq_step.proofs.Building.{copies_named-bodies}
@@ -50,7 +50,7 @@ length-unmatched q pairs =
     let c : length (enumerate_from 0 q.atoms) ≡ length q.atoms = length-enumerate_from 0 q.atoms in
     omega (arith, a, b, c)
 
-module _ (q : Query) (rule : Rule) (pieces : List (List (ℕ × ℕ))) (j : Named) (P : ArePieces q rule pieces) (T : IsTold q rule pieces j) (S : IsStored q)
+module _ (q : Query) (rule : Rule) (pieces : List (List (ℕ × ℕ))) (j : Named) (P : ArePieces q rule pieces) (T : TellsMembers q rule pieces j) (S : IsStored q)
     (K : IsKeptRule rule) where
   abbrev built : Query
   built = rewriting_of q rule pieces j

@@ -5,8 +5,8 @@ use Rattle.ucq_terms.proofs.Lists.{Contains-first}
 use Rattle.ucq_terms.specs.Syntax.{Rule, Query}
 use Rattle.ucq_unify.specs.Pieces.{AreSinglePieces}
 use Rattle.ucq_join.specs.Names.{Named}
-use Rattle.ucq_join.specs.Walk.{ArePieces, IsJoinOf, Walk, GoesOn, IsLast}
-use Rattle.ucq_step.specs.inner.Building.{IsTold}
+use Rattle.ucq_join.specs.Walk.{ArePieces, IsJoinOf, Walk, MovesTo, IsLast}
+use Rattle.ucq_step.specs.inner.Building.{TellsMembers}
 use Rattle.ucq_step.specs.inner.Walked.{WalksIn}
 use Rattle.ucq_step.specs.Kept.{AreDifferent, HasAddedCore}
 use Rattle.ucq_step.specs.Steps.{IsRewrittenAt, AreCoresUpTo, AreSteps}
@@ -27,10 +27,10 @@ to_walk : (P : Query → Rule → List (List (ℕ × ℕ)) → Type 0) (w : Walk
 to_walk P w q rule pieces W h =
     subst (λ x. P x w.rule w.pieces) (sym W.same_query) (subst (λ r. P q r w.pieces) (sym W.same_rule) (subst (λ ps. P q rule ps) (sym W.same_pieces) h))
 
-module _ (before after : Walk) (j : Named) (q : Query) (rule : Rule) (pieces : List (List (ℕ × ℕ))) (W : WalksIn before q rule pieces) (G : GoesOn before after j) where
+module _ (before after : Walk) (j : Named) (q : Query) (rule : Rule) (pieces : List (List (ℕ × ℕ))) (W : WalksIn before q rule pieces) (G : MovesTo before after j) where
   -- the set is told of the query, the rule and the pieces
-  pub IsTold-next : IsTold q rule pieces j
-  IsTold-next = from_walk (λ q rule pieces. IsTold q rule pieces j) before q rule pieces W (record { join = G.next.join; names = G.names })
+  pub TellsMembers-next : TellsMembers q rule pieces j
+  TellsMembers-next = from_walk (λ q rule pieces. TellsMembers q rule pieces j) before q rule pieces W (record { join = G.next.join; names = G.names })
 
   -- the walk still goes through them
   pub WalksIn-next : WalksIn after q rule pieces

@@ -7,7 +7,7 @@ ghost use Rattle.ucq_terms.specs.Unifier.{is_place, places, unmatched};
 ghost use Rattle.ucq_terms.specs.Rewriting.{atoms_named};
 ghost use Rattle.ucq_join.specs.Walk.{ArePieces};
 ghost use Rattle.ucq_step.specs.declared.rewriting.Side.TheVariants.{OfQuery};
-ghost use Rattle.ucq_step.specs.inner.Building.{side_name, bound_on, IsSideOf, atom_named, copies_named, left_out_at, pairs_at, rewriting_of, IsTold};
+ghost use Rattle.ucq_step.specs.inner.Building.{side_name, bound_on, IsSideOf, atom_named, copies_named, left_out_at, pairs_at, rewriting_of, TellsMembers};
 ghost use Rattle.ucq_step.specs.Steps.{IsRewriteResult};
 
 use crate::StepFault;
@@ -188,7 +188,7 @@ pub fn rewrite(
     joined: &Joined,
 ) -> Result<Query, StepFault>
     requires pieces { ArePieces query.now rule.now pieces.now }
-    requires told { IsTold query.now rule.now pieces.now joined.now }
+    requires told { TellsMembers query.now rule.now pieces.now joined.now }
     ensures { IsRewriteResult query.now rule.now pieces.now joined.now.members result }
 {
     let answers = named_terms(alloc, joined, Side::OfQuery, query.answers())?;

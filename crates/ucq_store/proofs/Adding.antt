@@ -12,7 +12,7 @@ use Rattle.ucq_antichain.specs.Rows.{query_at, SomeLiveCovers, IsAdded}
 use Rattle.ucq_store.specs.declared.Mark.{Mark}
 use Rattle.ucq_store.specs.Store.{mark_at, Store, IsRow, query_of, depth_of, state_of}
 use Rattle.ucq_store.specs.Lawful.{IsSoundCore, IsCoreOfOneStep, FitsLevel, StatesFollowLevels, RowsAreSoundCores}
-use Rattle.ucq_store.specs.Lawful.{IsDerived, RowsAreDerived, HasCause, IsLawful, LevelsAreCovered}
+use Rattle.ucq_store.specs.Lawful.{IsDerived, RowsAreDerived, HasCutCause, IsLawful, LevelsAreCovered}
 use Rattle.ucq_store.specs.Changes.{with_row, IsCandidate}
 use Rattle.ucq_store.proofs.Keeping.{AddKeeps}
 use Rattle.ucq_store.proofs.Added.{old_or_new, was_live, still_covered, rows_stay_covered, later_stay_uncovered, live_stay_incomparable}
@@ -152,7 +152,7 @@ module _ (s : Store) (parent : ℕ) (core : Query) (rows : List Row) (uncut : s.
     rows_are_derived = derived;
     no_row_covers_later = later_stay_uncovered core s.rows rows added law.rows_are_covered fresh law.no_row_covers_later;
     live_below_are_done = λ row live less. live_below now row follow live less;
-    cut_has_cause = subst (HasCause now) (sym uncut) tt;
+    cut_has_cause = subst (HasCutCause now) (sym uncut) tt;
   }
 
   still_row : (row : ℕ) → IsRow s row → IsRow now row

@@ -6,13 +6,13 @@ use Rattle.ucq_antichain.specs.Rows.{SomeLiveCovers}
 use Rattle.ucq_store.specs.declared.Cut.{Cut}
 use Rattle.ucq_store.specs.declared.Cut.TheVariants.{Rows, Wide}
 use Rattle.ucq_store.specs.Store.{Store, IsRow, query_of, depth_of}
-use Rattle.ucq_store.specs.Lawful.{HasCause, IsLawful, IsLeftOver}
+use Rattle.ucq_store.specs.Lawful.{HasCutCause, IsLawful, IsLeftOver}
 use Rattle.ucq_store.specs.Changes.{with_cut, IsCandidate}
 use Rattle.ucq_store.proofs.Keeping.{Keeps, FullKeeps, WideKeeps, DepthsAreSmall}
 use Rattle.ucq_store.proofs.Live.{live_covers_on}
 
 -- A cut changes nothing else.
-cut_is_lawful : (s : Store) (cut : Cut) → HasCause s (Some cut) → IsLawful s → IsLawful (with_cut s cut)
+cut_is_lawful : (s : Store) (cut : Cut) → HasCutCause s (Some cut) → IsLawful s → IsLawful (with_cut s cut)
 cut_is_lawful s cut why law =
     let cores = law.rows_are_sound_cores in
     let follow = law.states_follow_levels in
@@ -40,11 +40,11 @@ cut_is_lawful s cut why law =
       cut_has_cause = same_cause cut why;
     }
   where
-    same_cause : (cut : Cut) → HasCause s (Some cut) → HasCause (with_cut s cut) (Some cut)
+    same_cause : (cut : Cut) → HasCutCause s (Some cut) → HasCutCause (with_cut s cut) (Some cut)
     same_cause (Rows left) h = h
     same_cause (Wide row rule count) h = h
 
-cut_keeps : (s : Store) (cut : Cut) → (IsLawful s → HasCause s (Some cut)) → Keeps s (with_cut s cut)
+cut_keeps : (s : Store) (cut : Cut) → (IsLawful s → HasCutCause s (Some cut)) → Keeps s (with_cut s cut)
 cut_keeps s cut why = record {
   lawful = λ law. cut_is_lawful s cut (why law) law;
   by_levels = λ both. record {

@@ -9,7 +9,7 @@ use Rattle.ucq_store.specs.declared.Mark.{Mark}
 use Rattle.ucq_store.specs.declared.RowState.TheVariants.{Open, Claimed, Done}
 use Rattle.ucq_store.specs.declared.Cut.TheVariants.{Rows, Wide}
 use Rattle.ucq_store.specs.Store.{Store, IsRow, query_of, depth_of, state_of, IsInWork}
-use Rattle.ucq_store.specs.Lawful.{IsSoundCore, IsCoreOfOneStep, IsLeftOver, IsTooWide, IsLawful, IsLawfulByLevels}
+use Rattle.ucq_store.specs.Lawful.{IsSoundCore, IsCoreOfOneStep, IsLeftOver, IsWideRow, IsLawful, IsLawfulByLevels}
 use Rattle.ucq_store.specs.Changes.{new_store, with_row, with_state, with_claim, with_cut}
 use Rattle.ucq_store.specs.Changes.{IsCandidate, Adds, IsExhausted, IsRaised, IsReopened}
 
@@ -88,4 +88,4 @@ FullKeeps = (s : Store) (core : Query) → IsLeftOver s.problem s.budget s.rows 
 
 -- a row has a rewriting that is too wide
 abbrev pub WideKeeps : Type 0
-WideKeeps = (s : Store) (row rule count : ℕ) → IsTooWide s.problem.rules s.rows row rule count → Keeps s (with_cut s (Wide row rule count))
+WideKeeps = (s : Store) (row rule count : ℕ) → IsWideRow s.problem.rules s.rows row rule count → Keeps s (with_cut s (Wide row rule count))

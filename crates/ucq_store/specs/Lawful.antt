@@ -85,14 +85,14 @@ pub record HasWideStep (rules : List Rule) (q : Query) (rule count : ℕ) : Type
   pub wide : ATOMS < count
 
 -- the row's query has so with the rule a one-step rewriting that is too wide
-pub record IsTooWide (rules : List Rule) (rows : List Row) (row rule count : ℕ) : Type 0 where
+pub record IsWideRow (rules : List Rule) (rows : List Row) (row rule count : ℕ) : Type 0 where
   pub row_of : row < length rows
   pub wide_step : HasWideStep rules (query_at rows row) rule count
 
-abbrev pub HasCause : Store → Option Cut → Type 0
-HasCause s None = Unit {0}
-HasCause s (Some (Rows left)) = IsLeftOver s.problem s.budget s.rows left
-HasCause s (Some (Wide row rule count)) = IsTooWide s.problem.rules s.rows row rule count
+abbrev pub HasCutCause : Store → Option Cut → Type 0
+HasCutCause s None = Unit {0}
+HasCutCause s (Some (Rows left)) = IsLeftOver s.problem s.budget s.rows left
+HasCutCause s (Some (Wide row rule count)) = IsWideRow s.problem.rules s.rows row rule count
 
 -- A row is explored when it is Done, live or dead.
 pub record IsLawful (s : Store) : Type 0 where
@@ -120,7 +120,7 @@ pub record IsLawful (s : Store) : Type 0 where
   pub no_row_covers_later : (earlier later : ℕ) → earlier < later → IsRow s later → ¬ Covers (query_of s earlier) (query_of s later)
   -- a live row below the level is explored
   pub live_below_are_done : (row : ℕ) → IsLive s row → depth_of s row < s.level → state_of s row ≡ Done
-  pub cut_has_cause : HasCause s s.cut
+  pub cut_has_cause : HasCutCause s s.cut
 
 -- some row no deeper than that covers the query
 pub record IsCoveredAt (s : Store) (depth : ℕ) (q : Query) : Type 0 where

@@ -7,7 +7,7 @@ ghost use Rattle.ucq_hom.specs.Space.{IsClear};
 ghost use Rattle.ucq_antichain.specs.Rows.{row_at, query_at, live_queries};
 ghost use Rattle.ucq_store.specs.Store.{IsRow, IsFinished};
 ghost use Rattle.ucq_store.specs.Store.{query_of as query_in, state_of as state_in, depth_of as depth_in};
-ghost use Rattle.ucq_store.specs.Lawful.{IsLawfulByLevels, IsLeftOver, IsTooWide};
+ghost use Rattle.ucq_store.specs.Lawful.{IsLawfulByLevels, IsLeftOver, IsWideRow};
 ghost use Rattle.ucq_store.specs.Changes.{with_state, with_cut, IsExhausted};
 ghost use Rattle.ucq_store.specs.Calls.{IsNew, DoesClaim, DoesRelease, DoesReopen, DoesRaise, IsOffered, DoesTake, DoesPublish};
 
@@ -370,7 +370,7 @@ impl<'p> Store<'p> {
 
     // Cuts the store at a row that has a rewriting that is too wide.
     pub(crate) fn cut_wide(&mut self, row: u32, rule: u32, count: u32)
-        requires { IsTooWide self.old.problem.rules self.old.rows row rule count }
+        requires { IsWideRow self.old.problem.rules self.old.rows row rule count }
         ensures { self.new ≡ with_cut self.old (Cut.Wide row rule count) }
     {
         self.cut = Some(Cut::Wide { row, rule, count });

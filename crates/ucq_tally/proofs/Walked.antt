@@ -4,7 +4,7 @@ use Rattle.std.specs.Prelude.{min}
 use Rattle.ucq_terms.specs.Syntax.{Query, Rule}
 use Rattle.ucq_unify.specs.Pieces.{AreSinglePieces}
 use Rattle.ucq_join.specs.Names.{Named}
-use Rattle.ucq_join.specs.Walk.{Walk, ComesAfter, IsLast, GoesOn, HasGiven}
+use Rattle.ucq_join.specs.Walk.{Walk, ComesAfter, IsLast, MovesTo, HasGiven}
 use Rattle.ucq_join.proofs.Orders.{ComesAfter-irrefl}
 use Rattle.ucq_join.proofs.Given.{HasGiven-start, HasGiven-next, HasGiven-all}
 use Rattle.ucq_step.specs.inner.Walked.{WalksIn}
@@ -24,7 +24,7 @@ HasCounted-start w e = record {
   answered = omega arith;
 }
 
-pub HasCounted-next : (before after : Walk) (j : Named) (count more : ℕ) → GoesOn before after j → more ≡ min (count + 1) most →
+pub HasCounted-next : (before after : Walk) (j : Named) (count more : ℕ) → MovesTo before after j → more ≡ min (count + 1) most →
     IsSaturated (HasCounted before) count → IsSaturated (HasCounted after) more
 HasCounted-next before after j count more g e s = record {
   number = s.number + 1;

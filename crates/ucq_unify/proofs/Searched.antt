@@ -6,11 +6,11 @@ use Rattle.ucq_terms.specs.Unifier.{KeepsPredicate, IsPieceUnifier}
 use Rattle.ucq_terms.proofs.Lists.{first_element}
 use Rattle.ucq_unify.specs.Pieces.{AreSinglePieces}
 use Rattle.ucq_unify.specs.inner.Growing.{pairs_of, head_at, with_head, IsGrown, IsRooted}
-use Rattle.ucq_unify.specs.inner.Search.{IsBlocked, IsNext, HasFound, HasBranched, HasRooted}
+use Rattle.ucq_unify.specs.inner.Search.{IsBlockedChoice, IsNextPlace, HasFound, HasBranched, HasRooted}
 use Rattle.ucq_unify.proofs.Found.{searched_none, searched_closed, searched_open, branched_none, branched_skip, branched_more, rooted_none, rooted_more}
 use Rattle.ucq_unify.proofs.Choices.{no_heads-no_pairs}
 
-pub found_none : (q : Query) (rule : Rule) (root : ℕ) (choice : List (Option ℕ)) (before : List (List (ℕ × ℕ))) → IsBlocked q rule root choice →
+pub found_none : (q : Query) (rule : Rule) (root : ℕ) (choice : List (Option ℕ)) (before : List (List (ℕ × ℕ))) → IsBlockedChoice q rule root choice →
     HasFound q rule root choice before before
 found_none q rule root choice before b = record {
   more = [];
@@ -27,7 +27,7 @@ found_closed q rule root choice before after g U e = record {
 }
 
 pub found_open : (q : Query) (rule : Rule) (root : ℕ) (choice : List (Option ℕ)) (place : ℕ) (before after : List (List (ℕ × ℕ))) →
-    IsNext q rule root choice place → HasBranched q rule root choice place (length rule.heads) before after → HasFound q rule root choice before after
+    IsNextPlace q rule root choice place → HasBranched q rule root choice place (length rule.heads) before after → HasFound q rule root choice before after
 found_open q rule root choice place before after n b = record {
   more = b.more;
   added = b.added;

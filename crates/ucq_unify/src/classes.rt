@@ -39,8 +39,8 @@ pub fn link_choice(classes: &mut Classes, sides: &Sides, choice: &[Option<u32>])
         classes.old.numbers }
     requires keeps { KeepsEach sides.now.query.now sides.now.rule.now choice.now }
     ensures numbers { classes.new.numbers ≡ classes.old.numbers }
-    ensures linked { IsClassed (links sides.now.query.now 0 sides.now.rule.now (pairs_of choice.now))
-        classes.new }
+    ensures linked { IsClassed
+        (links sides.now.query.now 0 sides.now.rule.now (pairs_of choice.now)) classes.new }
 {
     classes.clear();
     for place in 0..choice.len() {
@@ -226,7 +226,8 @@ pub fn has_clash(classes: &Classes, sides: &Sides) -> bool
         IsClassed links classes.now →
         result ≡ false →
         HasNoClash links
-        × (HasSpoilt sides.now.query.now classes.now.numbers sides.now.existential.items links → ⊥) }
+        × (HasSpoilt sides.now.query.now classes.now.numbers sides.now.existential.items links →
+        ⊥) }
 {
     classes.has_clash() || has_spoilt(classes, sides)
 }

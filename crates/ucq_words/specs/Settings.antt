@@ -22,7 +22,7 @@ abbrev pub value_of : List ℕ → ℕ
 value_of digits = fold (λ n b. 10 * n + (b - 48)) 0 digits
 
 -- 1 to 9 digits that spell a number of this range
-pub record Spells (least most : ℕ) (digits : Text) (number : ℕ) : Type 0 where
+pub record SpellsNumber (least most : ℕ) (digits : Text) (number : ℕ) : Type 0 where
   pub some : 0 < length digits
   pub few : length digits ≤ 9
   pub each : All IsDigit digits
@@ -32,7 +32,7 @@ pub record Spells (least most : ℕ) (digits : Text) (number : ℕ) : Type 0 whe
 
 -- the number of an option: the one that its value spells, or the default where the option isn't given
 abbrev pub IsNumber : ℕ → ℕ → ℕ → Option Text → ℕ → Type 0
-IsNumber least most default (Some digits) number = Spells least most digits number
+IsNumber least most default (Some digits) number = SpellsNumber least most digits number
 IsNumber least most default None number = number ≡ default
 
 -- ---- settings
@@ -66,7 +66,7 @@ pub record IsReading (given listed : List Text) : Type 0 where
 
 -- the value of `--make` spells 1 to 4000, there is no file, and `--answers` isn't given
 pub record IsMaking (digits : Text) (given : List Text) (answers : Bool) (number : ℕ) : Type 0 where
-  pub spelled : Spells 1 4000 digits number
+  pub spelled : SpellsNumber 1 4000 digits number
   pub alone : given ≡ []
   pub plain : answers ≡ false
 

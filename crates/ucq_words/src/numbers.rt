@@ -1,6 +1,6 @@
 //! The numbers of options.
 ghost use Rattle.std.specs.Prelude.{◌≡◌, ◌<◌, ◌≤◌, ◌+◌, ◌-◌, ◌*◌, ◌^◌, ℕ, MatchOption, option_map};
-ghost use Rattle.ucq_words.specs.Settings.{IsDigit, IsNumber, Spells};
+ghost use Rattle.ucq_words.specs.Settings.{IsDigit, IsNumber, SpellsNumber};
 
 /// The most digits of a number.
 const MOST_DIGITS: usize = 9;
@@ -25,8 +25,8 @@ pub(crate) fn number_or(value: Option<&str>, least: u32, most: u32, default: u32
 pub(crate) fn number_of(digits: &[u8], least: u32, most: u32) -> Option<u32>
     requires { most < 2 ^ 28 }
     ensures { MatchOption result
-        ((number : ℕ) → Spells least most digits.now number → ⊥)
-        (λ number. Spells least most digits.now number) }
+        ((number : ℕ) → SpellsNumber least most digits.now number → ⊥)
+        (λ number. SpellsNumber least most digits.now number) }
 {
     if digits.is_empty() || digits.len() > MOST_DIGITS {
         return None;

@@ -9,7 +9,7 @@ abbrev pub term_of : ℕ → Term
 term_of letter = if nat_le 65 letter && nat_le letter 90 then Variable (letter - 65) else Constant letter
 
 -- The word is the predicate's byte, and then the bytes of the terms.
-pub record IsSpelled (word : List ℕ) (a : Atom) : Type 0 where
+pub record IsWordOf (word : List ℕ) (a : Atom) : Type 0 where
   pub letters : List ℕ
   pub word_is : word ≡ a.name ∷ letters
   pub terms_are : a.terms ≡ map term_of letters

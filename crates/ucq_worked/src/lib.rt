@@ -7,7 +7,7 @@
 
 ghost use Rattle.std.specs.Prelude.{◌≡◌, ◌≤◌, length, map, vec_len, IfOk};
 ghost use Rattle.ucq_terms.specs.Query.{IsStored};
-ghost use Rattle.ucq_worked.specs.Worked.{term_of, IsSpelled};
+ghost use Rattle.ucq_worked.specs.Worked.{term_of, IsWordOf};
 ghost use Rattle.ucq_worked.specs.declared.WorkedFault.TheVariants.{Memory};
 
 use std::alloc::{AllocError, AllocFailed, Global};
@@ -80,7 +80,7 @@ pub fn terms(alloc: Global, letters: &[u8]) -> Result<Vec<Term>, AllocError>
 
 /// The atom of the word.
 pub fn atom(alloc: Global, word: &str) -> Result<Atom, WorkedFault>
-    ensures { IfOk result (λ a. IsSpelled word.now a) }
+    ensures { IfOk result (λ a. IsWordOf word.now a) }
 {
     let Some((name, letters)) = word.as_bytes().split_first() else {
         return Err(WorkedFault::Misspelt);

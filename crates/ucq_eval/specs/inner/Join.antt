@@ -19,7 +19,7 @@ pub record IsCollected (q : Query) (facts : List Atom) (old new : List (List ℕ
   pub each : (tuple : List ℕ) → Contains new tuple ↔ (Contains old tuple ⊎ MapsInto q facts (map Constant tuple))
 
 -- Some map that agrees with what is bound sends the query's atoms at these places to facts, and its answers to the tuple.
-pub record Gives (b : Bound) (q : Query) (places : List ℕ) (facts : List Atom) (tuple : List ℕ) : Type 0 where
+pub record SendsToTuple (b : Bound) (q : Query) (places : List ℕ) (facts : List Atom) (tuple : List ℕ) : Type 0 where
   pub mapping : ℕ → Term
   pub extends : Extends mapping b
   pub sent : Sends mapping q.atoms places facts
@@ -47,11 +47,11 @@ pub record HasUnknown (b : Bound) (terms : List Term) : Type 0 where
   pub bound : value b term ≡ Some (Variable unknown)
 
 -- each term is bound to a constant, and these are the tuple
-pub record IsRead (b : Bound) (terms : List Term) (tuple : List ℕ) : Type 0 where
+pub record TellsTuple (b : Bound) (terms : List Term) (tuple : List ℕ) : Type 0 where
   pub each : map (value b) terms ≡ map (λ (c : ℕ). Some (Constant c)) tuple
 
 -- one of the terms is bound to no constant
-pub record IsUnread (b : Bound) (terms : List Term) : Type 0 where
+pub record TellsNone (b : Bound) (terms : List Term) : Type 0 where
   pub term : Term
   pub among : Contains terms term
   pub other : (c : ℕ) → value b term ≡ Some (Constant c) → ⊥

@@ -11,7 +11,7 @@ abbrev pub tuples_in : List (Vec ℕ) → List (List ℕ)
 tuples_in keys = map (λ (t : Vec ℕ). t.items) keys
 
 -- A search was under way, and the tuples with which the member at the place maps into the facts were added to what it found.
-pub record Follows {E : Type 0} (union : List Query) (facts : List Atom) (before : Result Search E) (place : ℕ) (after : Search) : Type 0 where
+pub record GoesThrough {E : Type 0} (union : List Query) (facts : List Atom) (before : Result Search E) (place : ℕ) (after : Search) : Type 0 where
   pub search : Search
   pub was : before ≡ Ok search
   pub member : Query

@@ -22,7 +22,7 @@ pub record IsReadyFor (q : Query) (rule : Rule) (n : Numbers) : Type 0 where
   pub few_variables : n.variables ≤ 4096
 
 -- each copy has this width
-pub record HasWidth (n : Numbers) (width : ℕ) : Type 0 where
+pub record HasCopyWidth (n : Numbers) (width : ℕ) : Type 0 where
   pub each : (copy : ℕ) → copy < length n.widths → width_of n copy ≡ width
 
 -- The terms of the query, which has no more atoms than are stored, and of each copy of the rule's head have numbers.

@@ -4,9 +4,9 @@ use Rattle.ucq_partition.specs.Partition.{label_of}
 use Rattle.ucq_terms.specs.declared.Term.{Term}
 use Rattle.ucq_terms.specs.declared.Term.TheVariants.{Constant, Variable}
 use Rattle.ucq_classes.specs.Numbers.{first, IsNumbering}
-use Rattle.ucq_classes.specs.Classes.{Labels, IsWhole}
+use Rattle.ucq_classes.specs.Classes.{Labels, IsLabelled}
 use Rattle.ucq_join.specs.Names.{Named}
-use Rattle.ucq_join.specs.inner.Copies.{HasWidth}
+use Rattle.ucq_join.specs.inner.Copies.{HasCopyWidth}
 
 -- the constant with the label as its number, or else a variable
 abbrev pub name_by : List ℕ → ℕ → Term
@@ -23,7 +23,7 @@ pub record IsNamed (c : Labels) (chosen : List ℕ) (j : Named) : Type 0 where
   pub names : AreNames c.numbers.constants c.labels (first c.numbers (length chosen)) j.names
   pub constants : j.constants ≡ length c.numbers.constants
   pub variables : j.variables ≡ c.numbers.variables
-  pub width : HasWidth c.numbers j.width
+  pub width : HasCopyWidth c.numbers j.width
   pub within : length chosen ≤ length c.numbers.widths
   pub proper : IsNumbering c.numbers
-  pub whole : IsWhole c
+  pub whole : IsLabelled c

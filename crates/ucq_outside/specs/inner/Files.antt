@@ -8,6 +8,6 @@ pub record IsPiece (file : List ℕ) (place n : ℕ) (buffer : List ℕ) : Type 
 
 -- Where what was taken is told after a push, it was told before and has grown by the bytes that were taken of the piece. A
 -- push that failed leaves it.
-abbrev pub Takes : {E : Type 0} → Option (List ℕ) → Option (List ℕ) → List ℕ → Result ℕ E → Type 0
-Takes before now piece (Ok n) = IfSome now (λ bytes. (old : List ℕ) × (before ≡ Some old) × (bytes ≡ old ++ take n piece))
-Takes before now piece (Err e) = now ≡ before
+abbrev pub TakesPiece : {E : Type 0} → Option (List ℕ) → Option (List ℕ) → List ℕ → Result ℕ E → Type 0
+TakesPiece before now piece (Ok n) = IfSome now (λ bytes. (old : List ℕ) × (before ≡ Some old) × (bytes ≡ old ++ take n piece))
+TakesPiece before now piece (Err e) = now ≡ before

@@ -41,7 +41,7 @@ pub record IsExplored (s : Store) (row : ℕ) (after : Store) : Type 0 where
   pub ends : (after ≡ with_state taken row Done) ⊎ ((cut : Cut) × (after ≡ with_cut taken cut))
 
 -- it is at rest again, and there is less to do
-pub record GoesOn (s after : Store) : Type 0 where
+pub record IsNearerEnd (s after : Store) : Type 0 where
   pub at_rest : IsAtRest after
   pub less : work_left after < work_left s
 
@@ -52,5 +52,5 @@ pub record IsSameTask (s after : Store) : Type 0 where
 
 -- at true there is more to do, at false it is finished or cut
 abbrev pub DoesAdvance : Store → Bool → Store → Type 0
-DoesAdvance s true after = GoesOn s after
+DoesAdvance s true after = IsNearerEnd s after
 DoesAdvance s false after = IsFinished after ⊎ IsCut after

@@ -13,5 +13,5 @@ abbrev pub placed_view : ℕ → ℕ → List ℕ → List Declaration → List 
 placed_view file number text declarations tokens form = record { file = file; number = number; starts = starts tokens; before = declared_view text declarations; statement = statement_view text form }
 
 -- the statement is spelled by these tokens
-abbrev pub IsSpelled : List ℕ → List Token → StatementForm → Type 0
-IsSpelled text tokens form = spelling (statement_view text form) ≡ words text tokens
+abbrev pub IsSpelledBy : List ℕ → List Token → StatementForm → Type 0
+IsSpelledBy text tokens form = spelling (statement_view text form) ≡ words text tokens

@@ -37,7 +37,7 @@ parts_in r facts = parts_for r.shared r.rules.items r.queries.items facts
 
 -- These are the facts that are asked about: where answers are asked for, the index has just these, and each predicate and
 -- constant of them has a name.
-pub record IsAbout (s : Shared) (facts : List Atom) : Type 0 where
+pub record AsksAbout (s : Shared) (facts : List Atom) : Type 0 where
   pub indexed : s.form ≢ Queries → AreFactsOf facts s.facts
   pub held : AreHeldAtoms (length s.names) facts
 
@@ -61,10 +61,10 @@ pub record Asks (call : Call) (r : Request) : Type 0 where
   pub input : InputValue
   pub asked : IsAsked call settings input
   pub parts : parts_in r input.facts ≡ parts_of settings input
-  pub about : IsAbout r.shared input.facts
+  pub about : AsksAbout r.shared input.facts
   pub within : AreWithinLimits r
 
 -- what is asked, or the outcome, which has its cause and comes before anything is printed
-abbrev pub IsRead : Call → Result Request Outcome → Type 0
-IsRead call (Ok r) = Asks call r
-IsRead call (Err outcome) = IsCause call outcome × IsEarly outcome
+abbrev pub IsPrepared : Call → Result Request Outcome → Type 0
+IsPrepared call (Ok r) = Asks call r
+IsPrepared call (Err outcome) = IsCause call outcome × IsEarly outcome

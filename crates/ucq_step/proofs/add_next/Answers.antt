@@ -1,11 +1,11 @@
 use Rattle.std.proofs.Common.{◌≡◌, Option, Some, Ok, subst}
 use Rattle.ucq_join.specs.Names.{Named}
-use Rattle.ucq_join.specs.Walk.{Walk, Advances, GoesOn}
+use Rattle.ucq_join.specs.Walk.{Walk, Advances, MovesTo}
 use Rattle.ucq_step.proofs.Walking.{ArePieces-single, AreCoresUpTo-next}
 use Rattle.ucq_step.proofs.add_next.Goals as goal
 
 -- the walk goes on where a step gives a set
-goes_on : (before after : Walk) (given : Option Named) (j : Named) → given ≡ Some j → Advances before after (Ok given) → GoesOn before after j
+goes_on : (before after : Walk) (given : Option Named) (j : Named) → given ≡ Some j → Advances before after (Ok given) → MovesTo before after j
 goes_on before after given j e s = subst (λ (o : Option Named). Advances before after (Ok o)) e s
 
 pub rewrite-requires-clause-pieces : goal.rewrite-requires-clause-pieces

@@ -1,7 +1,7 @@
 use Rattle.std.proofs.Common.{◌≡◌, ℕ, Bool, true, false, List, [], Contains, Ok, sym, ap, subst, inl, inr}
 use Rattle.ucq_terms.specs.Syntax.{Query, Rule}
 use Rattle.ucq_join.specs.Names.{Named}
-use Rattle.ucq_join.specs.Walk.{Walk, GoesOn, IsLast}
+use Rattle.ucq_join.specs.Walk.{Walk, MovesTo, IsLast}
 use Rattle.ucq_step.specs.Steps.{AreCoresUpTo}
 use Rattle.ucq_step.specs.inner.Walked.{AreFoundTo, DoesAddNext}
 use Rattle.ucq_terms.proofs.Lists.{Contains-empty}
@@ -11,7 +11,7 @@ use Rattle.ucq_step.proofs.Walking.{WalksIn-next, stands-next, left_of-less, Are
 use Rattle.ucq_step.proofs.cores_of.Goals as goal
 
 -- where there was a next set, the walk went on to it
-went_on : (before after : Walk) (q : Query) (rule : Rule) (more : Bool) → more ≡ true → DoesAddNext before after q rule (Ok more) → (j : Named) × GoesOn before after j
+went_on : (before after : Walk) (q : Query) (rule : Rule) (more : Bool) → more ≡ true → DoesAddNext before after q rule (Ok more) → (j : Named) × MovesTo before after j
 went_on before after q rule more e D = subst (λ (more : Bool). DoesAddNext before after q rule (Ok more)) e D
 
 -- where there was none, it is at its end

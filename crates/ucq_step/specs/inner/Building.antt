@@ -58,6 +58,6 @@ rewriting_of q rule pieces j = record {
 }
 
 -- what a walk tells of a set of pieces
-pub record IsTold (q : Query) (rule : Rule) (pieces : List (List (ℕ × ℕ))) (j : Named) : Type 0 where
+pub record TellsMembers (q : Query) (rule : Rule) (pieces : List (List (ℕ × ℕ))) (j : Named) : Type 0 where
   pub join : IsJoin q rule pieces j.members
   pub names : TellsNames q rule (members_at pieces j.members) j

@@ -2,7 +2,7 @@
 use Rattle.std.specs.Prelude.{◌≡◌, ℕ, Bool, true, false, List, Result, Ok, Err}
 use Rattle.ucq_terms.specs.Syntax.{Rule, Query}
 use Rattle.ucq_join.specs.Names.{Named}
-use Rattle.ucq_join.specs.Walk.{Walk, GoesOn, IsLast}
+use Rattle.ucq_join.specs.Walk.{Walk, MovesTo, IsLast}
 use Rattle.ucq_step.specs.Kept.{AreDifferent, HaveCores}
 use Rattle.ucq_step.specs.Steps.{IsStepFault, AreCoresUpTo, AreSteps}
 use Rattle.ucq_step.specs.declared.StepFault.{StepFault}
@@ -20,7 +20,7 @@ pub record AreFoundTo (w : Walk) (forms cores : List Query) : Type 0 where
 
 -- the walk goes on to a next set, or is at its end; or why there is no answer
 abbrev pub DoesAddNext : Walk → Walk → Query → Rule → Result Bool StepFault → Type 0
-DoesAddNext before after q rule (Ok true) = (j : Named) × GoesOn before after j
+DoesAddNext before after q rule (Ok true) = (j : Named) × MovesTo before after j
 DoesAddNext before after q rule (Ok false) = IsLast before × (after ≡ before)
 DoesAddNext before after q rule (Err fault) = IsStepFault q rule fault
 

@@ -7,20 +7,20 @@ use Rattle.ucq_unify.specs.declared.search.Step.TheVariants.{Blocked, Closed, Op
 use Rattle.ucq_unify.specs.inner.Growing.{pairs_of, head_at, ChoosesAmong, StartsAt, IsCalledFor, IsSearched, IsBranched, IsRooted}
 
 -- no piece-unifier has the choice's pairs and no place below the root
-pub record IsBlocked (q : Query) (rule : Rule) (root : ℕ) (choice : List (Option ℕ)) : Type 0 where
+pub record IsBlockedChoice (q : Query) (rule : Rule) (root : ℕ) (choice : List (Option ℕ)) : Type 0 where
   pub none : (piece : List (ℕ × ℕ)) → IsPieceUnifier q rule piece → ChoosesAmong choice piece → StartsAt root piece → ⊥
 
 -- the choice calls for the place, which is above the root and has no head yet
-pub record IsNext (q : Query) (rule : Rule) (root : ℕ) (choice : List (Option ℕ)) (place : ℕ) : Type 0 where
+pub record IsNextPlace (q : Query) (rule : Rule) (root : ℕ) (choice : List (Option ℕ)) (place : ℕ) : Type 0 where
   pub within : place < length q.atoms
   pub above : root ≤ place
   pub free : head_at choice place ≡ None
   pub calls : IsCalledFor q rule choice place
 
 abbrev pub IsSearchStep : Query → Rule → ℕ → List (Option ℕ) → Step → Type 0
-IsSearchStep q rule root choice Blocked = IsBlocked q rule root choice
+IsSearchStep q rule root choice Blocked = IsBlockedChoice q rule root choice
 IsSearchStep q rule root choice Closed = IsPieceUnifier q rule (pairs_of choice)
-IsSearchStep q rule root choice (Open place) = IsNext q rule root choice place
+IsSearchStep q rule root choice (Open place) = IsNextPlace q rule root choice place
 
 -- the pieces that a choice leads to were added
 pub record HasFound (q : Query) (rule : Rule) (root : ℕ) (choice : List (Option ℕ)) (before after : List (List (ℕ × ℕ))) : Type 0 where

@@ -10,10 +10,10 @@ use Rattle.ucq_hom.specs.Search.{HasLowTerms}
 use Rattle.ucq_hom.proofs.Found.{ArePlaces-rest, HasLowTerms-at}
 use Rattle.ucq_hom.proofs.Homs.{HasLowAtoms-atoms}
 use Rattle.ucq_facts.specs.Facts.{matching}
-use Rattle.ucq_eval.specs.inner.Join.{Gives, HasUnknown, IsRead, IsUnread, AreReached}
+use Rattle.ucq_eval.specs.inner.Join.{SendsToTuple, HasUnknown, TellsTuple, TellsNone, AreReached}
 use Rattle.ucq_eval.proofs.Grown.{IsGrownBy-nothing, IsGrownBy-same}
 use Rattle.ucq_eval.proofs.Places.{HasSamePlaces-swapped, HasSamePlaces-trans, HasSamePlaces-part, HasSamePlaces-first, ArePlaces-same, read_of, HasSamePlaces-refl, no_places, some_place}
-use Rattle.ucq_eval.proofs.Given.{none_by_unknown, read_alone, Gives-read, place_by_unread, AreReached-same, AreReached-matched}
+use Rattle.ucq_eval.proofs.Given.{none_by_unknown, read_alone, SendsToTuple-read, place_by_unread, AreReached-same, AreReached-matched}
 use Rattle.ucq_eval.proofs.Branches.{targets_of_first, found_none, found_more, found_all, found_matched, name-first}
 use Rattle.ucq_eval.proofs.join.+join.Goals as goal
 use Rattle.ucq_eval.proofs.join.+join.Goals.{explore-then-read+else-is_found+else-is_empty, explore-else-read}
@@ -113,8 +113,8 @@ pub explore-returns-then-is_found-clause-found : goal.explore-returns-then-is_fo
 explore-returns-then-is_found-clause-found t c =
     let q = c.args.query.now in
     let tuple = c.read.new.tuple in
-    let read : IsRead c.args.bindings.now q.answers tuple =
-    subst (λ (ts : List Term). IsRead c.args.bindings.now ts tuple) c.answers-answers.ensures.answers (c.if-read.ensures.read refl) in
+    let read : TellsTuple c.args.bindings.now q.answers tuple =
+    subst (λ (ts : List Term). TellsTuple c.args.bindings.now ts tuple) c.answers-answers.ensures.answers (c.if-read.ensures.read refl) in
     IsGrownBy-nothing _ _ (λ x g.
     subst (λ (y : List ℕ). Contains (map (λ v. v.items) c.args.found.now.keys) y) (sym (read_alone c.args.bindings.now q c.args.places.now c.args.facts.now tuple x read g))
     (c.is_found.ensures.0 c.if-is_found.true))
@@ -126,10 +126,10 @@ explore-returns-then-is_empty-clause-found t c =
     let places = c.args.places.now in
     let facts = c.args.facts.now in
     let tuple = c.read.new.tuple in
-    let read : IsRead b q.answers tuple =
-    subst (λ (ts : List Term). IsRead b ts tuple) c.answers-answers.ensures.answers (c.if-read.ensures.read refl) in
+    let read : TellsTuple b q.answers tuple =
+    subst (λ (ts : List Term). TellsTuple b ts tuple) c.answers-answers.ensures.answers (c.if-read.ensures.read refl) in
     let none : length places ≡ 0 = no_places places (sym c.is_empty.ensures ∙ c.if-is_empty.true) in
-    on_ok_weaker c.add.result (λ f. IsGrownBy-same _ _ _ _ (λ x e. subst (λ (y : List ℕ). Gives b q places facts y) (sym e) (Gives-read b q places facts tuple read none))
+    on_ok_weaker c.add.result (λ f. IsGrownBy-same _ _ _ _ (λ x e. subst (λ (y : List ℕ). SendsToTuple b q places facts y) (sym e) (SendsToTuple-read b q places facts tuple read none))
     (λ x g. read_alone b q places facts tuple x read g) f) c.add.ensures
 
 pub explore-branch-bindings-requires : goal.explore-branch-bindings-requires
@@ -141,7 +141,7 @@ explore-branch-bindings-requires t c =
     let f = c.if-has_unknown.false in cc in
     let some : 0 < length places = elim c.if-read.branch [
       | explore-then-read+else-is_found+else-is_empty w ↦ some_place places (sym w.is_empty.ensures ∙ w.if-is_empty.false)
-      | explore-else-read w ↦ place_by_unread b q places (subst (λ (ts : List Term). IsUnread b ts) c.answers-answers.ensures.answers (c.read.ensures.unread w.if-read.false)) known c.requires.reached
+      | explore-else-read w ↦ place_by_unread b q places (subst (λ (ts : List Term). TellsNone b ts) c.answers-answers.ensures.answers (c.read.ensures.unread w.if-read.false)) known c.requires.reached
     ] in
     (omega arith, (some, (c.requires.places, c.requires.reached)))
 

@@ -5,8 +5,8 @@ use Rattle.ucq_terms.specs.Syntax.{Atom}
 use Rattle.ucq_terms.specs.Unifier.{atom_at}
 use Rattle.ucq_hom.specs.Bindings.{Bound, Grown, IsMatched}
 use Rattle.ucq_hom.specs.Levels.{Counts, HasLevelsOf, KeepsLevels}
-use Rattle.ucq_hom.specs.Search.{HasLowTerms, IsAtomClash, IsFound, IsBlocked}
-use Rattle.ucq_hom.proofs.Found.{IsFound-more, IsBlocked-all, IsBlocked-jump, IsPast, IsPast-blocked, IsPast-clash, IsPast-skip, ArePlaces-first, ArePlaces-rest, read_at, HasLowTerms-at, Contains-remove, match_from, deeper_from}
+use Rattle.ucq_hom.specs.Search.{HasLowTerms, IsAtomClash, IsMappedFurther, IsBlocked}
+use Rattle.ucq_hom.proofs.Found.{IsMappedFurther-more, IsBlocked-all, IsBlocked-jump, IsPast, IsPast-blocked, IsPast-clash, IsPast-skip, ArePlaces-first, ArePlaces-rest, read_at, HasLowTerms-at, Contains-remove, match_from, deeper_from}
 use Rattle.ucq_hom.proofs.Noted.{IsDeeper, HasLevelsOf-within, KeepsLevels-deeper}
 use Rattle.ucq_hom.proofs.search.+extend.Goals as goal
 use Rattle.ucq_hom.proofs.search.+extend.Goals.{then-j-skip+then-match_atom+in-Some-extend+else-not-has_level, else-j-skip, else-j-skip-via-then-j-skip+else-match_atom, else-j-skip-via-else-j-skip}
@@ -53,8 +53,8 @@ returns-in_default-extend-clause-found t c = λ _.
     (c.match_atom.ensures.matched c.if-match_atom.true)) in
     let among : Contains (remove to c.args.skip) c.index-to-j.result =
     subst (λ (x : Atom). Contains (remove to c.args.skip) x) (sym target) (Contains-remove to c.args.skip c.loop-j.j _ m c.if-j-skip.true) in
-    subst (λ (x : List ℕ). IsFound c.args.bindings.now c.extend.new.bindings from x (remove to c.args.skip)) (sym c.in-Some.ensures.cases.0)
-    (IsFound-more c.args.bindings.now c.match_atom.new.bindings c.extend.new.bindings from place rest (remove to c.args.skip) c.index-to-j.result l among
+    subst (λ (x : List ℕ). IsMappedFurther c.args.bindings.now c.extend.new.bindings from x (remove to c.args.skip)) (sym c.in-Some.ensures.cases.0)
+    (IsMappedFurther-more c.args.bindings.now c.match_atom.new.bindings c.extend.new.bindings from place rest (remove to c.args.skip) c.index-to-j.result l among
     (ap (λ (x : Atom). x.name) (sym atom) ∙ name) m' (c.extend.ensures.found c.in_default-extend.is))
 
 pub returns-in_default-extend-clause-levels : goal.returns-in_default-extend-clause-levels

@@ -3,7 +3,7 @@ use Rattle.std.specs.List.{remove}
 use Rattle.ucq_terms.specs.declared.Term.{Term}
 use Rattle.ucq_terms.specs.Syntax.{Atom}
 use Rattle.ucq_hom.specs.Bindings.{IsMatched, IsClash}
-use Rattle.ucq_hom.specs.Search.{HasLowTerms, HasLowAtoms, IsOrder, IsFound, IsBlocked}
+use Rattle.ucq_hom.specs.Search.{HasLowTerms, HasLowAtoms, IsOrder, IsMappedFurther, IsBlocked}
 use Rattle.std.specs.Option.{IsSome}
 use Rattle.ucq_hom.proofs.Matched.{no_value, the_value}
 use Rattle.ucq_hom.proofs.Homs.{HasLowTerms-answers, HasLowAtoms-atoms, GivesHomomorphism-found, none_by_clash, none_by_block}
@@ -29,7 +29,7 @@ returns-then-is_none-clause-found c = λ _.
     (subst (λ (x : List Term). IsMatched c.clear.new.self c.match_terms.new.bindings x c.args.answers.now) c.answers.ensures.answers
     (c.match_terms.ensures.matched c.if-not-match_terms.false))
     (subst (λ (x : List Atom). IsOrder x order) c.atoms-atoms.ensures.atoms c.order_atoms.ensures)
-    (subst (λ (x : List Atom). IsFound c.match_terms.new.bindings c.extend.new.bindings x order targets) c.atoms-atoms.ensures.atoms
+    (subst (λ (x : List Atom). IsMappedFurther c.match_terms.new.bindings c.extend.new.bindings x order targets) c.atoms-atoms.ensures.atoms
     (c.extend.ensures.found (no_value c.extend.result (λ s. let a = c.is_none.ensures in let b = c.if-is_none.true in cc))))
 
 pub returns-clause-none : goal.returns-clause-none

@@ -1,7 +1,7 @@
 use Rattle.std.proofs.Common.{◌≡◌, ◌+◌, ◌++◌, ◌∷◌, [], ℕ, List, length, sym, ap, ◌∙◌, arith}
 use Rattle.std.proofs.lemmas.List.{length-append}
 use Rattle.ucq_classes.specs.Numbers.{Numbers}
-use Rattle.ucq_join.proofs.Even.{size_more, HasWidth-none, HasWidth-push}
+use Rattle.ucq_join.proofs.Even.{size_more, HasCopyWidth-none, HasCopyWidth-push}
 use Rattle.ucq_join.proofs.copies.set_copies.Goals as goal
 
 -- only the copies differ
@@ -15,7 +15,7 @@ loop-copy-init c =
     record {
       rest = c.clear_copies.ensures ∙ ap (λ (ws : List ℕ). record c.args.numbering.now { widths = ws }) (sym none);
       count = ap length none;
-      width = HasWidth-none c.clear_copies.new.self c.args.width none;
+      width = HasCopyWidth-none c.clear_copies.new.self c.args.width none;
     }
 
 pub add_copy-requires : goal.add_copy-requires
@@ -41,5 +41,5 @@ loop-copy-preserved c =
     record {
       rest = rest_more c.args.numbering.now n c.add_copy.new.self more c.loop-copy.invariant.rest added;
       count = ap (λ (x : Numbers). length x.widths) added ∙ (let e : length more ≡ c.loop-copy._copy + 1 = omega arith in e);
-      width = HasWidth-push n c.add_copy.new.self c.args.width c.loop-copy.invariant.width added;
+      width = HasCopyWidth-push n c.add_copy.new.self c.args.width c.loop-copy.invariant.width added;
     }

@@ -4,7 +4,7 @@ use Rattle.std.proofs.lemmas.Result.{err_from_is_err_and}
 use Rattle.ucq_reader.specs.declared.ReadFault.{ReadFault}
 use Rattle.ucq_reader.specs.Meaning.{malformed}
 use Rattle.ucq_reader.specs.Outcome.{IsFileFault, IsAdmitted, IsJudged}
-use Rattle.ucq_reader.specs.inner.Placing.{IsSpelled, placed_view}
+use Rattle.ucq_reader.specs.inner.Placing.{IsSpelledBy, placed_view}
 use Rattle.ucq_lexer.specs.declared.Token.{Token}
 use Rattle.ucq_reader.specs.inner.Parse.{IsNoStatement}
 use Rattle.ucq_reader.proofs.Parsing.{tokens_count}
@@ -43,7 +43,7 @@ pub judge-refusal-requires-clause-spelled : goal.judge-refusal-requires-clause-s
 judge-refusal-requires-clause-spelled c =
     let inv = c.loop-place.invariant in
     let ts = c.args.tokens.now in
-    subst (λ (us : List Token). IsSpelled c.args.text.now us c.in_ok-next.next.form) (sym (between ts c.loop-place.place c.in_ok-next.next.count))
+    subst (λ (us : List Token). IsSpelledBy c.args.text.now us c.in_ok-next.next.form) (sym (between ts c.loop-place.place c.in_ok-next.next.count))
     (spelled c.args.file c.args.text.now ts c.loop-place.place c.loop-place.number c.in_ok-next.next.form c.in_ok-next.next.count inv.before inv.read c.in_ok-next.ensures.found)
 
 pub judge-refusal-requires-clause-names : goal.judge-refusal-requires-clause-names

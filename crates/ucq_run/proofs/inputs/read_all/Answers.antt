@@ -2,7 +2,7 @@ use Rattle.std.proofs.Common.{take, ◌+◌, ◌≡◌, ◌∙◌, ap, sym, subs
 use Rattle.std.specs.Prelude.{IfSome, string_bytes}
 use Rattle.std.proofs.lemmas.List.{map-append}
 use Rattle.ucq_reader.specs.Outcome.{byte_count, texts}
-use Rattle.ucq_run.specs.Inputs.{AreRead}
+use Rattle.ucq_run.specs.Inputs.{AreFileTexts}
 use Rattle.ucq_run.specs.Causes.{IsUnreadAt}
 use Rattle.ucq_run.proofs.FilesRead.{byte_count-more, mapped_at, one_more_read, unread_is_cause}
 use Rattle.ucq_run.proofs.inputs.read_all.Goals as goal
@@ -23,7 +23,7 @@ loop-file-preserved g c =
     let sum = ap byte_count grown in
     let size = c.len-total.ensures in
     record {
-      read = subst (λ ts. AreRead held (take (c.loop-file.file + 1) names) ts) (sym grown) (one_more_read held names before c.loop-file.file name text named c.loop-file.invariant.read told (omega (arith, total, short)));
+      read = subst (λ ts. AreFileTexts held (take (c.loop-file.file + 1) names) ts) (sym grown) (one_more_read held names before c.loop-file.file name text named c.loop-file.invariant.read told (omega (arith, total, short)));
       total = omega (arith, total, more, sum, size);
       held = λ n. c.in-Ok.ensures.held n ∙ c.loop-file.invariant.held n;
       later = omega (arith, c.in-Ok.ensures.later, c.loop-file.invariant.later);

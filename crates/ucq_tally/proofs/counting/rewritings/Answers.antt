@@ -3,13 +3,13 @@ use Rattle.std.specs.Option.{is_some}
 use Rattle.ucq_terms.specs.Syntax.{Query, Rule}
 use Rattle.ucq_unify.specs.Pieces.{AreSinglePieces}
 use Rattle.ucq_join.specs.Names.{Named}
-use Rattle.ucq_join.specs.Walk.{Walk, Advances, IsLast, GoesOn}
+use Rattle.ucq_join.specs.Walk.{Walk, Advances, IsLast, MovesTo}
 use Rattle.ucq_step.proofs.Walking.{ArePieces-single, WalksIn-next, stands-next, left_of-less}
 use Rattle.ucq_tally.proofs.Walked.{HasCounted-start, HasCounted-next, HasRewritings-end}
 use Rattle.ucq_tally.proofs.counting.rewritings.Goals as goal
 
 -- the walk goes on where a step gives a set
-goes_on : (before after : Walk) (given : Option Named) → is_some given ≡ true → Advances before after (Ok given) → (j : Named) × GoesOn before after j
+goes_on : (before after : Walk) (given : Option Named) → is_some given ≡ true → Advances before after (Ok given) → (j : Named) × MovesTo before after j
 goes_on before after None e s = absurd (cc)
 goes_on before after (Some j) e s = (j, s)
 

@@ -2,13 +2,13 @@ use Rattle.std.proofs.Common.{◌+◌, ℕ, List, Option, take, get_or, arith, s
 use Rattle.std.proofs.lemmas.List.{take_more}
 use Rattle.std.proofs.lemmas.List.Elements.{All-push}
 use Rattle.std.specs.Prelude.{All, MatchOption}
-use Rattle.ucq_words.specs.Settings.{IsDigit, Spells}
+use Rattle.ucq_words.specs.Settings.{IsDigit, SpellsNumber}
 use Rattle.ucq_words.proofs.Digits.{value_of-more, value_of-take}
 use Rattle.ucq_words.proofs.numbers.number_of.Goals as goal
 
 pub returns-in_err-value : goal.returns-in_err-value
 returns-in_err-value c =
-    let none : (number : ℕ) → Spells c.args.least c.args.most c.args.digits.now number → ⊥ = λ number s.
+    let none : (number : ℕ) → SpellsNumber c.args.least c.args.most c.args.digits.now number → ⊥ = λ number s.
     let over = c.in_err-value.ensures (s.each c.loop-byte.byte-index 0 c.loop-byte-test.true) in
     let more = value_of-more c.args.digits.now c.loop-byte.byte-index c.loop-byte-test.true in
     let whole = value_of-take c.args.digits.now (c.loop-byte.byte-index + 1) in
@@ -16,7 +16,7 @@ returns-in_err-value c =
     let spelled = s.value in
     let high = s.high in
     omega arith in
-    subst (λ (o : Option ℕ). MatchOption o ((number : ℕ) → Spells c.args.least c.args.most c.args.digits.now number → ⊥) (λ number. Spells c.args.least c.args.most c.args.digits.now number)) (sym c.from_residual.ensures) none
+    subst (λ (o : Option ℕ). MatchOption o ((number : ℕ) → SpellsNumber c.args.least c.args.most c.args.digits.now number → ⊥) (λ number. SpellsNumber c.args.least c.args.most c.args.digits.now number)) (sym c.from_residual.ensures) none
 
 pub loop-byte-preserved : goal.loop-byte-preserved
 loop-byte-preserved c =

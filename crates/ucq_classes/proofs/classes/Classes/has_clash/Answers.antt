@@ -1,6 +1,6 @@
 use Rattle.std.proofs.Common.{◌≡◌, ◌≢◌, ◌∙◌, ℕ, length, AllPairs, sym, subst, ap, arith, below_more}
 use Rattle.ucq_partition.specs.Partition.{label_of}
-use Rattle.ucq_classes.specs.Classes.{Labels, IsWhole}
+use Rattle.ucq_classes.specs.Classes.{Labels, IsLabelled}
 use Rattle.ucq_classes.proofs.Clashes.{clash_at, no_clash}
 use Rattle.ucq_classes.proofs.classes.Classes.has_clash.Goals as goal
 
@@ -8,7 +8,7 @@ pub returns-then-label-place-clause-clash : goal.returns-then-label-place-clause
 returns-then-label-place-clause-clash c = λ _ links k.
     let v = c.args.self.now in
     let once = subst (λ (u : Labels). AllPairs (λ (c d : ℕ). c ≢ d) u.numbers.constants) c.self.view_is c.constants.ensures.proper.once in
-    let whole : IsWhole v = subst IsWhole c.self.view_is c.self.invariant in
+    let whole : IsLabelled v = subst IsLabelled c.self.view_is c.self.invariant in
     let same : c.constants.result.now ≡ v.numbers.constants = c.constants.ensures.constants ∙ ap (λ (u : Labels). u.numbers.constants) c.self.view_is in
     clash_at v links k once whole.room c.loop-place.place (omega (arith, ap length same)) (λ e. c.if-label-place.true (c.label.ensures ∙ e))
 
@@ -19,6 +19,6 @@ pub returns-clause-none : goal.returns-clause-none
 returns-clause-none c = λ _ links k.
     let v = c.args.self.now in
     let once = subst (λ (u : Labels). AllPairs (λ (c d : ℕ). c ≢ d) u.numbers.constants) c.self.view_is c.constants.ensures.proper.once in
-    let whole : IsWhole v = subst IsWhole c.self.view_is c.self.invariant in
+    let whole : IsLabelled v = subst IsLabelled c.self.view_is c.self.invariant in
     let same : c.constants.result.now ≡ v.numbers.constants = c.constants.ensures.constants ∙ ap (λ (u : Labels). u.numbers.constants) c.self.view_is in
     no_clash v links k once whole.room (λ m l. c.loop-place.invariant m (omega (arith, ap length same)))

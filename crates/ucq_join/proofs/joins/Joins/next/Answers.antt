@@ -2,10 +2,10 @@ use Rattle.std.proofs.Common.{rules, ◌≡◌, ◌+◌, [], ℕ, true, List, �
 use Rattle.std.proofs.lemmas.List.Elements.{same_from_all_zip}
 use Rattle.ucq_join.specs.inner.Copies.{IsWidthOf, IsReadyFor, AreNumbered}
 use Rattle.ucq_join.specs.inner.Naming.{IsNamed}
-use Rattle.ucq_join.specs.Walk.{Walk, IsJoin, IsLast, IsNext, GoesOn}
+use Rattle.ucq_join.specs.Walk.{Walk, IsJoin, IsLast, IsNext, MovesTo}
 use Rattle.ucq_join.proofs.Even.{few_numbers, numbered_copies, ready_with, walking_with}
 use Rattle.ucq_join.proofs.Sets.{start_few}
-use Rattle.ucq_join.proofs.Steps.{found_next, found_last, GoesOn-named}
+use Rattle.ucq_join.proofs.Steps.{found_next, found_last, MovesTo-named}
 use Rattle.ucq_join.proofs.joins.Joins.next.Goals as goal
 
 pub overflow_cast-copies : goal.overflow_cast-copies
@@ -92,7 +92,7 @@ returns c =
     let ready = subst (IsReadyFor c.self.inside.query.now c.self.inside.rule.now) (sym numbers)
     (ready_with c.self.inside.query.now c.self.inside.rule.now c.self.inside.numbering c.set_copies.new.numbering c.set_copies.ensures.rest c.self.invariant.ready) in
     let named : IsNamed v items c.in_ok-joined.joined = c.in_ok-joined.ensures.named in
-    subst (λ (u : Walk). GoesOn u (w items) c.in_ok-joined.joined) c.self.view_is
-    (GoesOn-named (w c.self.inside.present.items) v items c.in_ok-joined.joined ready
+    subst (λ (u : Walk). MovesTo u (w items) c.in_ok-joined.joined) c.self.view_is
+    (MovesTo-named (w c.self.inside.present.items) v items c.in_ok-joined.joined ready
     (subst (IsWidthOf c.self.inside.rule.now) (sym c.in_ok-joined.ensures.width) c.self.invariant.width_of)
     (subst (λ (xs : List ℕ). IsNext (w xs) items) same next) named (c.in_ok-advance.ensures.classed found))
