@@ -66,7 +66,7 @@ pub record Carries (first : List Atom) (old new : ℕ → Term) (from to : List 
   pub agrees : (v : ℕ) → OccursIn first (Variable v) → new v ≡ old v
 
 -- what a chase step adds goes where the other step has it
-replay_head : (rule : Rule) (before next : List Atom) (s : IsChaseStep rule before next) (other old new : ℕ → Term) →
+pub replay_head : (rule : Rule) (before next : List Atom) (s : IsChaseStep rule before next) (other old new : ℕ → Term) →
     Extends (existentials rule) s.placed other old new → ((v : ℕ) → OccursIn before (Variable v) → new v ≡ old v) →
     ((v : ℕ) → OccursIn rule.body (Variable v) → other v ≡ term_image old (s.trigger v)) → (v : ℕ) → OccursIn rule.heads (Variable v) →
     term_image new (s.placed v) ≡ other v
@@ -128,7 +128,7 @@ pub record Replayed (rules : List Rule) (first facts last : List Atom) (old : �
   pub carries : Carries first old new last end
 
 -- and so can a chase
-pub replay : (rules : List Rule) (first : List Atom) (steps : List (List Atom)) (last facts : List Atom) (old : ℕ → Term) →
+replay : (rules : List Rule) (first : List Atom) (steps : List (List Atom)) (last facts : List Atom) (old : ℕ → Term) →
     IsChaseSequence rules first steps last → IsSubset (atoms_image old first) facts → Replayed rules first facts last old
 replay rules first [] last facts old e into = record {
   steps = [];

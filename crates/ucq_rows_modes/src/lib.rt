@@ -5,3 +5,5 @@
 mod asserts;
 #[cfg(test)]
 mod containments;
+#[cfg(test)]
+mod needless;

@@ -1,2 +1,4 @@
+pub mod Collected
 pub mod Contained
+pub mod Following
 pub mod Spared

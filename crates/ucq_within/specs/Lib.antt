@@ -1,2 +1,4 @@
 pub mod Containment
 pub mod Minimal
+pub mod Needless
+pub mod inner

@@ -1,5 +1,6 @@
 //! Whether a query is contained in a store's.
 ghost use Rattle.std.specs.Prelude.{◌⊎◌, MatchOption};
+ghost use Rattle.ucq_hom.specs.Space.{IsClear};
 ghost use Rattle.ucq_store.specs.Store.{IsCut, IsFinished};
 ghost use Rattle.ucq_within.specs.Containment.{IsFirstCovering, NoRowCovers, TellsWithin};
 
@@ -10,11 +11,12 @@ use ucq_store::Store;
 use ucq_store::laws::finished_is_exact;
 use ucq_terms::Query;
 
-/// Whether the query is contained in the store's, under its rules, as far as the rows tell. It takes no memory. A
-/// homomorphism is searched for each row up to the first that covers the query.
+/// Whether the query is contained in the store's, under its rules, as far as the rows tell. It takes no memory, and leaves
+/// the space clear. A homomorphism is searched for each row up to the first that covers the query.
 pub fn within(space: &mut HomSpace, of: &Store, query: &Query) -> Within
     requires { IsFinished of.now ⊎ IsCut of.now }
-    ensures { TellsWithin of.now query.now result }
+    ensures told { TellsWithin of.now query.now result }
+    ensures clear { IsClear space.new }
 {
     sound_is_carried();
     finished_is_exact();
@@ -30,11 +32,14 @@ pub fn within(space: &mut HomSpace, of: &Store, query: &Query) -> Within
 
 /// The first row that covers the query.
 pub(crate) fn first_covering(space: &mut HomSpace, of: &Store, query: &Query) -> Option<u32>
-    ensures { MatchOption result (NoRowCovers of.now query.now) (λ row.
+    ensures found { MatchOption result (NoRowCovers of.now query.now) (λ row.
         IsFirstCovering of.now query.now row) }
+    ensures clear { IsClear space.new }
 {
+    space.clear();
     for row in 0..of.rows() {
         if covers(space, of.query_of(row), query) {
+            space.clear();
             return Some(row);
         }
     }

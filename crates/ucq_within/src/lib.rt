@@ -1,4 +1,5 @@
-//! Containment of queries under rules, and queries without atoms that the rules make needless, told by the rows of a store.
+//! Containment of queries under rules, queries without atoms that the rules make needless, and rules that others make
+//! needless, told by the rows of a store.
 //!
 //! A query is contained in another under rules when each of its answers over any facts is one of the other's. After
 //! D. S. Johnson and A. Klug, *Testing containment of conjunctive queries under functional and inclusion dependencies*,
@@ -6,9 +7,12 @@
 #![tactic(auto)]
 
 pub mod containment;
+pub mod laws;
 mod minimal;
+mod needless;
 
 pub use minimal::minimise;
+pub use needless::rule_queries;
 
 /// Whether a query is contained in that of a store, under the store's rules.
 #[derive(Clone, Copy, Debug, PartialEq, Eq)]

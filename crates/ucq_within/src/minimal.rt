@@ -3,6 +3,7 @@ ghost use Rattle.std.specs.Prelude.{◌<◌, ◌↔◌, IfOk, IsTrue, length};
 ghost use Rattle.ucq_terms.specs.declared.Term.{Term as TermValue};
 ghost use Rattle.std.specs.List.{remove};
 ghost use Rattle.ucq_terms.specs.Syntax.{IsSafe, OccursIn};
+ghost use Rattle.ucq_hom.specs.Space.{IsClear};
 ghost use Rattle.ucq_within.specs.Minimal.{IsHeldWithout, IsMinimised, MaySpare, without};
 
 use crate::containment::first_covering;
@@ -14,12 +15,15 @@ use ucq_terms::{Atom, NoMemory, Query, Term};
 
 /// The query of the store's problem with atoms left out: from the last to the first, an atom is left out where another one
 /// remains, the rest is safe, and a row of the store covers the rest. Under the rules it has the answers of the problem's
-/// query; where the store is finished, no query of some of its atoms has. Want of memory is the one error.
+/// query; where the store is finished, no query of some of its atoms has. The space is left clear. Takes a search for each
+/// atom and each row. Want of memory is the one error.
 pub fn minimise(space: &mut HomSpace, of: &Store) -> Result<Query, NoMemory>
-    ensures { IfOk result (IsMinimised of.now) }
+    ensures left { IfOk result (IsMinimised of.now) }
+    ensures clear { IsClear space.new }
 {
     sound_is_carried();
     finished_is_exact();
+    space.clear();
     let mut query = of.problem().query().copy()?;
     // A reader tells that the store is lawful.
     let _ = of.rows();
@@ -35,8 +39,10 @@ pub fn minimise(space: &mut HomSpace, of: &Store) -> Result<Query, NoMemory>
 
 /// Whether the query without the atom at the place has an atom, is safe, and is covered by a row of the store.
 fn may_spare(space: &mut HomSpace, of: &Store, query: &Query, place: u32) -> Result<bool, NoMemory>
-    requires { place < length query.now.atoms }
-    ensures { IfOk result (λ may. IsTrue may ↔ MaySpare of.now query.now place) }
+    requires place { place < length query.now.atoms }
+    requires clear { IsClear space.old }
+    ensures may { IfOk result (λ may. IsTrue may ↔ MaySpare of.now query.now place) }
+    ensures clear { IsClear space.new }
 {
     if query.atoms().len() == 1 || !is_safe_without(query, place) {
         return Ok(false);
@@ -81,7 +87,7 @@ fn occurs_without(atoms: &[Atom], place: u32, term: Term) -> bool
 }
 
 /// Whether the term stands in one of the atoms.
-fn occurs(atoms: &[Atom], term: Term) -> bool
+pub(crate) fn occurs(atoms: &[Atom], term: Term) -> bool
     ensures { IsTrue result ↔ OccursIn atoms.now term }
 {
     atoms.iter().any(|atom| atom.terms().contains(&term))

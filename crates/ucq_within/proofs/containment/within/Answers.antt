@@ -12,18 +12,18 @@ finished_here s None read is e (inl finished) = finished
 finished_here s None read is e (inr cut) = let none : IsSome {T = Cut} None = subst (λ (c : Option Cut). IsSome c) is cut in absurd cc
 finished_here s (Some cut) read is e ended = absurd cc
 
-pub returns-in-Some : goal.returns-in-Some
-returns-in-Some c =
-    (c.in-Some.ensures, row_contains c.sound_is_carried.ensures.carried c.args.of.now c.cut.ensures.lawful.lawful c.args.query.now c.in-Some.row c.in-Some.ensures.row_of c.in-Some.ensures.covers)
+pub returns-in-Some-clause-told : goal.returns-in-Some-clause-told
+returns-in-Some-clause-told c =
+    (c.in-Some.ensures.found, row_contains c.sound_is_carried.ensures.carried c.args.of.now c.cut.ensures.lawful.lawful c.args.query.now c.in-Some.row c.in-Some.ensures.found.row_of c.in-Some.ensures.found.covers)
 
-pub returns-in-None-2 : goal.returns-in-None-2
-returns-in-None-2 c =
+pub returns-in-None-2-clause-told : goal.returns-in-None-2-clause-told
+returns-in-None-2-clause-told c =
     let s = c.args.of.now in
     let q = c.args.query.now in
     let finished = finished_here s c.cut.result (λ cut. cut.now) c.cut.ensures.cut c.if-is_cut.ensures c.requires in (
       finished,
-      c.in-None-2.ensures,
+      c.in-None-2.ensures.found,
       λ contained.
           let (row, row_of, covers) = contained_is_covered c.finished_is_exact.ensures s c.cut.ensures.lawful.lawful finished q c.atoms.ensures.stored.safe contained in
-          c.in-None-2.ensures row row_of covers,
+          c.in-None-2.ensures.found row row_of covers,
     )

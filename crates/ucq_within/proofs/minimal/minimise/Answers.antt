@@ -15,8 +15,9 @@ loop-place-preserved-then-branch c =
     let few = c.loop-place.invariant.within in
     let size = length-remove q.atoms place (omega (arith, some, few)) in
     let on : suc place ≡ c.loop-place.place = omega (arith, some) in
-    let may = c.in_ok-may_spare.ensures.0 c.if-branch.true in
+    let may = c.in_ok-may_spare.ensures.may.0 c.if-branch.true in
     record {
+      clear = c.in_ok-may_spare.ensures.clear;
       within = subst (λ (r : Query). place ≤ length r.atoms) (sym c.remove_atom.ensures) (omega (arith, size, few, some));
       leaves = λ left more. c.loop-place.invariant.leaves left (subst (λ (n : ℕ). LeavesOut s n q left) on
           (inl (may, subst (λ (r : Query). LeavesOut s place r left) c.remove_atom.ensures more)));
@@ -31,13 +32,14 @@ loop-place-preserved c =
     let few = c.loop-place.invariant.within in
     let on : suc place ≡ c.loop-place.place = omega (arith, some) in
     record {
+      clear = c.in_ok-may_spare.ensures.clear;
       within = omega (arith, few);
       leaves = λ left more. c.loop-place.invariant.leaves left (subst (λ (n : ℕ). LeavesOut s n q left) on
-          (inr ((λ may. let yes = sym c.if-branch.false ∙ c.in_ok-may_spare.ensures.1 may in absurd cc), more)));
+          (inr ((λ may. let yes = sym c.if-branch.false ∙ c.in_ok-may_spare.ensures.may.1 may in absurd cc), more)));
     }
 
-pub returns : goal.returns
-returns c =
+pub returns-clause-left : goal.returns-clause-left
+returns-clause-left c =
     let s = c.args.of.now in
     let q = c.loop-place.query in
     let done : 0 ≡ c.loop-place.place = omega (arith, c.loop-place-test.false) in
