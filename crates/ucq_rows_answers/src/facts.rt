@@ -99,3 +99,20 @@ fn a_held_fact_is_not_added_again(rt: HostRuntime) {
     assert_added(&rt, rt.alloc(), &mut facts, "pcb", false, 4);
     assert_added(&rt, rt.alloc(), &mut facts, "qcb", true, 5);
 }
+
+/// Whether the fact at the place is this one.
+fn stands_at(facts: &Facts, place: u32, want: &Atom) -> bool {
+    if place >= facts.len() {
+        return false;
+    }
+    facts.atom(place) == want
+}
+
+#[test]
+fn a_place_gives_its_fact(rt: HostRuntime) {
+    let facts = facts_of(&rt, rt.alloc(), SMALL);
+    let wanted = sure(&rt, atom(rt.alloc(), "pcb"));
+    let places = facts.places(u32::from(b'p'), 2, Some((1, term(b'b'))));
+    equal(&rt, places.get(1) == Some(&1), true, "place of pcb");
+    equal(&rt, stands_at(&facts, 1, &wanted), true, "pcb");
+}
