@@ -109,8 +109,9 @@ numbered_is_held m input has n =
     let (s, j, e) = Contains-from_map (rule_value names) m.rules r (subst (λ (rs : List Rule). Contains rs r) n.rules i) in
     subst (IsHeldRule (length names)) e (rule_held names s (among_names m names (rule_symbols s) n.names (has.rules s j)))) in
     record {
-      problem = All-from_zip (IsAskedOf names) (λ (asked : Asked). IsHeldProblem (length names) (record { rules = input.rules; query = asked.query })) m.queries input.queries n.queries (λ q asked i of.
-          record { rules = rules; query = query_held names q.query asked.query (among_names m names (query_symbols q.query) n.names (has.queries q i)) of.query });
+      rules = rules;
+      queries = All-from_zip (IsAskedOf names) (λ (asked : Asked). IsHeldQuery (length names) asked.query) m.queries input.queries n.queries (λ q asked i of.
+          query_held names q.query asked.query (among_names m names (query_symbols q.query) n.names (has.queries q i)) of.query);
       facts = All-from_contains (IsHeldAtom (length names)) input.facts (λ a i.
           let of_fact : ℕ × List SymbolAtom → List Atom = λ (f : ℕ × List SymbolAtom). map (atom_value names (n.unknown f.0)) f.1 in
           let (f, j, k) = Contains-from_flat_map of_fact (enumerate_from 0 m.facts) a (subst (λ (atoms : List Atom). Contains atoms a) n.facts i) in

@@ -7,7 +7,7 @@ use Rattle.ucq_terms.specs.Numbering.{query_order, numbered_query}
 use Rattle.ucq_antichain.specs.declared.Row.{Row}
 use Rattle.ucq_lexer.specs.declared.Kind.TheVariants.{Identifier, Iri, Integer, Text}
 use Rattle.ucq_lexer.specs.Spelling.{IsSpelled}
-use Rattle.ucq_chase.specs.Names.{AreHeldAtoms, IsHeldQuery, IsHeldProblem}
+use Rattle.ucq_chase.specs.Names.{AreHeldAtoms, IsHeldQuery, IsHeldRule}
 use Rattle.ucq_reader.specs.declared.input.Asked.{Asked}
 use Rattle.ucq_reader.specs.Input.{InputValue, IsInput, HasNumbersOf}
 use Rattle.ucq_reader.specs.Made.{made}
@@ -256,7 +256,8 @@ StoredArePrintable = (names : List (List ℕ)) (q : Query) → IsStored q → Is
 
 -- each predicate and constant of the rules, of each query and of the facts has a name
 pub record IsHeldInput (input : InputValue) : Type 0 where
-  pub problem : All (λ (asked : Asked). IsHeldProblem (length input.names) (record { rules = input.rules; query = asked.query })) input.queries
+  pub rules : All (IsHeldRule (length input.names)) input.rules
+  pub queries : All (λ (asked : Asked). IsHeldQuery (length input.names) asked.query) input.queries
   pub facts : AreHeldAtoms (length input.names) input.facts
 
 -- the input that files stand for is so

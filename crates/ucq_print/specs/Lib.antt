@@ -1,4 +1,5 @@
 pub mod Texts
+pub mod Compared
 pub mod Refusals
 pub mod Laws
 pub mod Rows

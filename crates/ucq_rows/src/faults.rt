@@ -194,7 +194,7 @@ fn a_file_without_its_last_dot_is_refused(rt: HostRuntime) {
 }
 
 /// Words that stand for no settings.
-const BAD_WORDS: [&str; 14] = [
+const BAD_WORDS: [&str; 16] = [
     "",
     "-x",
     "-h",
@@ -209,6 +209,8 @@ const BAD_WORDS: [&str; 14] = [
     "--make 4001",
     "--make 1 --answers",
     "--make 1 f",
+    "--make 1 --within",
+    "--within --within f",
 ];
 
 /// Asserts of the words how their run over two edges ends.
@@ -222,7 +224,7 @@ fn assert_ended(rt: &impl Abort, alloc: Global, rows: &[&str], status: u8, out: 
 #[test]
 fn words_that_stand_for_no_settings_are_refused(rt: HostRuntime) {
     let err =
-        "ucq: usage: ucq [--workers N] [--budget N] [--answers] FILE... or ucq [--workers N] [--budget N] --make N\n";
+        "ucq: usage: ucq [--workers N] [--budget N] [--answers] [MODE] FILE... or ucq [--workers N] [--budget N] --make N\n";
     assert_ended(&rt, rt.alloc(), &BAD_WORDS, 2, "", err);
 }
 

@@ -8,6 +8,8 @@ mod asserts;
 #[cfg(test)]
 mod budgets;
 #[cfg(test)]
+mod comparing;
+#[cfg(test)]
 mod failing;
 #[cfg(test)]
 mod faults;

@@ -16,6 +16,8 @@ use Rattle.ucq_print.specs.Laws.{AreReadableNames, ArePrintable, ArePrintableTup
 use Rattle.ucq_print.specs.Texts.{lines_text, answer_lines, answered_text, atom_count, finished_text, summary_text}
 use Rattle.ucq_print.proofs.InputNames.{input_names}
 use Rattle.ucq_print.proofs.Unions.{answered_apart, answered_shape, beginning_apart}
+use Rattle.ucq_words.specs.declared.values.Mode.{Mode}
+use Rattle.ucq_words.specs.declared.values.Mode.TheVariants.{Plain}
 use Rattle.ucq_words.specs.Settings.{JobValue, files, make, SettingsValue, OneSettings}
 use Rattle.ucq_run.specs.declared.outcome.Outcome.{Outcome}
 use Rattle.ucq_run.specs.declared.outcome.Outcome.TheVariants.{Finished, Cut, NoMemory, BadWords, ReadFault, TooLong, Refused, WriteFault}
@@ -24,11 +26,11 @@ use Rattle.ucq_run.specs.Inputs.{Call, IsAsked, IsInputOf, job_form, problem_of}
 use Rattle.ucq_run.specs.Cuts.{IsCutText}
 use Rattle.ucq_run.specs.Finished.{AreChaseAnswers, Question, question_of, IsPrintedIn, IsFinishedText}
 use Rattle.ucq_outside.specs.Taken.{SinkChange, TookAll}
-use Rattle.ucq_run.specs.Parts.{section, header_of, PartText, AreTextsOf, IsSectionText, join, NoneIsCut, parts_of}
+use Rattle.ucq_run.specs.Parts.{section, section_of, PartText, AreTextsOf, IsSectionText, join, NoneIsCut, parts_in, parts_of}
 use Rattle.ucq_run.specs.Printed.{Prints}
 use Rattle.ucq_run.specs.Run.{HoldsFiles}
-use Rattle.ucq_run.specs.Laws.{AskForMade, BeginsWithAnswers, BeginsWithUnion, FinishedRunPrintsUnions, FinishedSectionsAgree, HasSection, IsFinishedRun, IsRunTaking, IsSectionOf, MadeRunsAgree, PrintedAnswersAreExact, PrintedUnionIsExact}
-use Rattle.ucq_run.proofs.Asking.{budget_within}
+use Rattle.ucq_run.specs.Laws.{AskForMade, AskForNoMode, BeginsWithAnswers, BeginsWithUnion, FinishedRunPrintsUnions, FinishedSectionsAgree, HasSection, IsFinishedRun, IsRunTaking, IsSectionOf, MadeRunsAgree, PrintedAnswersAreExact, PrintedUnionIsExact}
+use Rattle.ucq_run.proofs.Asking.{budget_within, made_is_plain}
 use Rattle.ucq_run.proofs.InputLimits.{few_queries, few_rules}
 use Rattle.ucq_print.proofs.InputLabels.{input_labels}
 use Rattle.ucq_run.proofs.OneProblem.{AreSameAsked, AreSameInput, answers_of_files, exact_of_asked, same_at, same_input, same_of_files}
@@ -189,8 +191,9 @@ record HasRead (call : Call) (status : ℕ) (text : List ℕ) (texts : List (Lis
   of : IsOfFiles taken.settings taken.input
 
 module _ (one : OneSettings) where
-  has_read : (call : Call) (status : ℕ) (text : List ℕ) (texts : List (List ℕ)) → (status ≡ 0) ⊎ (status ≡ 5) → HoldsFiles call texts → IsRunTaking call status text → HasRead call status text texts
-  has_read call status text texts ended told run =
+  has_read : (call : Call) (status : ℕ) (text : List ℕ) (texts : List (List ℕ)) → (status ≡ 0) ⊎ (status ≡ 5) → HoldsFiles call texts → AskForNoMode call.words →
+      IsRunTaking call status text → HasRead call status text texts
+  has_read call status text texts ended told plain run =
       let t : WasTaken call status text = was_taken call status text ended run in
       let is : IsInput texts t.input = (asked_told one call t.settings t.input texts t.asked told).1 in
       record {
@@ -199,6 +202,7 @@ module _ (one : OneSettings) where
         of = record {
           given = told.names;
           job = job_named one call t.settings t.input texts t.asked told;
+          plain = plain t.settings t.asked.stand;
           readable = input_names texts t.input is;
           budget = (budget_within call.words t.settings t.asked.stand).high;
           rules = few_rules texts t.input is;
@@ -229,9 +233,9 @@ record HasText (call : Call) (status : ℕ) (text : List ℕ) (texts : List (Lis
 
 module _ (one : OneSettings) (told : SectionsAreTold) (sections : TextsAreSections) where
   has_text : (call : Call) (status : ℕ) (text : List ℕ) (texts : List (List ℕ)) (input : InputValue) (number : ℕ) (asked : Asked) (piece : List ℕ) → (status ≡ 0) ⊎ (status ≡ 5) →
-      HoldsFiles call texts → IsInput texts input → IsRunTaking call status text → HasSection input number asked text piece → HasText call status text texts input asked piece
-  has_text call status text texts input number asked piece ended held is run h =
-      let r : HasRead call status text texts = has_read one call status text texts ended held run in
+      HoldsFiles call texts → AskForNoMode call.words → IsInput texts input → IsRunTaking call status text → HasSection input number asked text piece → HasText call status text texts input asked piece
+  has_text call status text texts input number asked piece ended held plain is run h =
+      let r : HasRead call status text texts = has_read one call status text texts ended held plain run in
       let back : AreSameInput input r.taken.input = same_of_files texts input r.taken.input is r.is in
       let (other, at, asks) = same_at input.queries r.taken.input.queries number asked back.queries h.query in
       let stands : HasSection r.taken.input number other (join r.taken.texts) piece = record {
@@ -248,21 +252,21 @@ module _ (one : OneSettings) (told : SectionsAreTold) (sections : TextsAreSectio
       }
 
   pub printed_union_is_exact : TextsDiffer → PrintedUnionIsExact
-  printed_union_is_exact differ call texts input text piece number asked union held is (status, ended, run) h begins =
-      let t : HasText call status text texts input asked piece = has_text call status text texts input number asked piece ended held is run h in
+  printed_union_is_exact differ call texts input text piece number asked union held plain is (status, ended, run) h begins =
+      let t : HasText call status text texts input asked piece = has_text call status text texts input number asked piece ended held plain is run h in
       let there : BeginsWithUnion t.read.taken.input.names piece union = subst (λ (names : List (List ℕ)). BeginsWithUnion names piece union) (sym t.same.names) begins in
       exact_of_asked t.read.taken.input input t.other asked union t.same.rules t.asks
       (own_union differ any_cut t.read.taken.settings t.read.taken.input t.read.of t.other piece t.own union there)
 
   pub finished_sections_agree : TextsDiffer → FinishedSectionsAgree
-  finished_sections_agree differ call other texts input text text_other piece section_other number asked xs ys held held_other is run run_other h h_other begins begins_other =
+  finished_sections_agree differ call other texts input text text_other piece section_other number asked xs ys held held_other plain plain_other is run run_other h h_other begins begins_other =
       exact_is_unique (problem_of input asked.query) xs ys
-      (printed_union_is_exact differ call texts input text piece number asked xs held is run h begins)
-      (printed_union_is_exact differ other texts input text_other section_other number asked ys held_other is run_other h_other begins_other)
+      (printed_union_is_exact differ call texts input text piece number asked xs held plain is run h begins)
+      (printed_union_is_exact differ other texts input text_other section_other number asked ys held_other plain_other is run_other h_other begins_other)
 
   pub printed_answers_are_exact : TextsDiffer → HeadersAreNoAnswers → PrintedAnswersAreExact
-  printed_answers_are_exact differ apart call texts input text piece number asked union tuples held is (status, ended, run) h begins =
-      let t : HasText call status text texts input asked piece = has_text call status text texts input number asked piece ended held is run h in
+  printed_answers_are_exact differ apart call texts input text piece number asked union tuples held plain is (status, ended, run) h begins =
+      let t : HasText call status text texts input asked piece = has_text call status text texts input number asked piece ended held plain is run h in
       let a : InputValue = t.read.taken.input in
       let there : BeginsWithAnswers a.names piece union tuples = subst (λ (names : List (List ℕ)). BeginsWithAnswers names piece union tuples) (sym t.same.names) begins in
       let unions : BeginsWithUnion a.names piece union = union_before differ any_cut t.read.taken.settings a t.read.of t.other piece union tuples there in
@@ -288,8 +292,8 @@ module _ (one : OneSettings) (told : SectionsAreTold) (sections : TextsAreSectio
       )
 
   pub finished_run_prints_unions : HeaderIsLine → FinishedRunPrintsUnions
-  finished_run_prints_unions line call texts input text number asked held is run at =
-      let r : HasRead call 0 text texts = has_read one call 0 text texts (inl refl) held run in
+  finished_run_prints_unions line call texts input text number asked held plain is run at =
+      let r : HasRead call 0 text texts = has_read one call 0 text texts (inl refl) held plain run in
       let same : AreSameInput r.taken.input input = same_of_files texts r.taken.input input r.is is in
       let (other, there, asks) = same_at input.queries r.taken.input.queries number asked (same_of_files texts input r.taken.input is r.is).queries at in
       let (piece, stands, own) = has_section sections not_cut r.taken.settings r.taken.input r.of r.taken.texts (r.taken.has refl) r.taken.are line number other there in
@@ -319,10 +323,12 @@ made_query number input h = go (made number).queries input.queries refl h.querie
     go (m ∷ []) (q ∷ r ∷ qs) e zip = absurd zip.1
 
 -- the one finished section
-only_finished : (settings : SettingsValue) (input : InputValue) (asked : Asked) (texts : List PartText) → input.queries ≡ asked ∷ [] → AreTextsOf (parts_of settings input) texts → NoneIsCut texts →
+only_finished : (settings : SettingsValue) (input : InputValue) (asked : Asked) (texts : List PartText) → settings.mode ≡ Plain → input.queries ≡ asked ∷ [] → AreTextsOf (parts_of settings input) texts → NoneIsCut texts →
     IsFinishedText (question_of settings input asked.query) (join texts)
-only_finished settings input asked texts e are none =
-    go texts (subst (λ (qs : List Asked). AreTextsOf (map (λ (q : ℕ × Asked). section (header_of qs q.0 q.1) (question_of settings input q.1.query)) (enumerate_from 0 qs)) texts) e are) none
+only_finished settings input asked texts plain e are none =
+    let sections : AreTextsOf (map (section_of input.queries (question_of settings input)) (enumerate_from 0 input.queries)) texts =
+    subst (λ (mode : Mode). AreTextsOf (parts_in mode input.queries input.rules (question_of settings input) input.names settings.budget) texts) plain are in
+    go texts (subst (λ (qs : List Asked). AreTextsOf (map (section_of qs (question_of settings input)) (enumerate_from 0 qs)) texts) e sections) none
   where
     go : (texts : List PartText) → AreTextsOf (section [] (question_of settings input asked.query) ∷ []) texts → NoneIsCut texts → IsFinishedText (question_of settings input asked.query) (join texts)
     go [] h none = absurd h
@@ -376,7 +382,7 @@ has_counted one call number text asks run =
     let a : WasTaken call 0 text = was_taken call 0 text (inl refl) run in
     let job : a.settings.job ≡ make number = ap (λ (s : SettingsValue). s.job) (one call.words a.settings asks.settings a.asked.stand asks.stand) ∙ asks.job in
     counted_so a.settings.answers a.settings.job number call.held a.input a.settings.budget text job a.asked.has
-    (λ asked query. subst (IsFinishedText (question_of a.settings a.input asked.query)) a.is (only_finished a.settings a.input asked a.texts query a.are (a.has refl)))
+    (λ asked query. subst (IsFinishedText (question_of a.settings a.input asked.query)) a.is (only_finished a.settings a.input asked a.texts (made_is_plain call.words a.settings number a.asked.stand job) query a.are (a.has refl)))
 
 pub made_runs_agree : OneSettings → MadeRunsAgree
 made_runs_agree one call other number text text_other asks asks_other run run_other =

@@ -7,7 +7,7 @@ use Rattle.ucq_run.specs.declared.outcome.Outcome.{Outcome}
 use Rattle.ucq_run.specs.declared.outcome.Outcome.TheVariants.{Finished, Cut, NoMemory, BadWords, ReadFault as ReadFaultAt, TooLong, Refused, WriteFault}
 use Rattle.ucq_run.specs.Inputs.{Call}
 use Rattle.ucq_run.specs.Causes.{IsCause}
-use Rattle.ucq_run.specs.inner.Request.{Asks, AsksAbout, parts_in}
+use Rattle.ucq_run.specs.inner.Request.{Asks, AsksAbout, parts_asked}
 use Rattle.ucq_run.specs.Parts.{Part}
 use Rattle.ucq_run.proofs.PartTexts.{took_nothing}
 use Rattle.ucq_outside.specs.Taken.{SinkChange, change_of}
@@ -24,7 +24,7 @@ printed_has_cause call parts out (ReadFaultAt file at) h = absurd h
 printed_has_cause call parts out (TooLong file) h = absurd h
 printed_has_cause call parts out (Refused fault) h = absurd h
 
-pub printed : (call : Call) (r : Request) (out : SinkChange) (o : Outcome) → Asks call r → ((facts : List Atom) → AsksAbout r.shared facts → PrintsParts (parts_in r facts) out o) →
+pub printed : (call : Call) (r : Request) (out : SinkChange) (o : Outcome) → Asks call r → ((facts : List Atom) → AsksAbout r.shared facts → PrintsParts (parts_asked r facts) out o) →
     Prints call out o
 printed call r out o asks prints = inl (record {
   settings = asks.settings;

@@ -5,6 +5,8 @@ mod PartTexts
 mod InTurn
 mod Turns
 mod Printing
+mod Comparing
+mod Judging
 mod Unknowns
 mod OneSize
 mod OneProblem

@@ -1,6 +1,6 @@
 -- Inputs of one meaning have the same problems, up to the order of a query's atoms, and a budget is enough for all or for none.
-use Rattle.std.proofs.Common.{◌≡◌, ◌+◌, ℕ, zero, suc, All, List, [], ◌∷◌, map, refl, sym, ap, ◌∙◌, subst, arith}
-use Rattle.std.proofs.lemmas.List.Elements.{All-cons, All-nil}
+use Rattle.std.proofs.Common.{◌≡◌, ◌+◌, ◌++◌, ℕ, zero, suc, All, List, [], ◌∷◌, map, refl, sym, ap, ◌∙◌, subst, arith}
+use Rattle.std.proofs.lemmas.List.Elements.{All-append, All-cons, All-contains, All-nil, Contains-append_left, Contains-append_right}
 use Rattle.std.specs.List.{AllZip, enumerate_from}
 use Rattle.std.specs.Prelude.{Result, Ok, Some, slice_get}
 use Rattle.ucq_terms.specs.Syntax.{Rule, Query, Problem, IsSubset, IsSameSet}
@@ -16,10 +16,13 @@ use Rattle.ucq_reader.specs.declared.input.Asked.{Asked}
 use Rattle.ucq_reader.specs.Meaning.{Meant, SymbolAsked, SymbolQuery}
 use Rattle.ucq_reader.specs.Input.{InputValue, IsAskedOf, IsInput, HasNumbersOf, IsQueryOf, rule_value}
 use Rattle.ucq_reader.proofs.Refusals.{meaning_unique}
+use Rattle.ucq_terms.proofs.Lists.{All-from_contains}
+use Rattle.ucq_words.specs.declared.values.Mode.{Mode}
+use Rattle.ucq_words.specs.declared.values.Mode.TheVariants.{Plain, Within}
 use Rattle.ucq_words.specs.Settings.{SettingsValue}
 use Rattle.ucq_run.specs.Inputs.{problem_of}
-use Rattle.ucq_run.specs.Parts.{HasEnoughFor, parts_of, section_of}
-use Rattle.ucq_run.specs.Finished.{AreChaseAnswers}
+use Rattle.ucq_run.specs.Parts.{Part, HasEnoughFor, compared_of, judged_of, parts_in, parts_of, section_of}
+use Rattle.ucq_run.specs.Finished.{AreChaseAnswers, question_of}
 use Rattle.ucq_run.proofs.Unknowns.{answers_move}
 
 -- a query whose atoms are among those of the other covers it
@@ -125,19 +128,43 @@ enough_of_asked : (a b : InputValue) (x y : Asked) (budget : ℕ) → a.rules �
 enough_of_asked a b x y budget rules same enough =
     enough_of_same b.rules x.query y.query budget same.query (subst (λ (rs : List Rule). IsEnough (problem_with rs x.query) budget) rules enough)
 
-enough_from : (settings : SettingsValue) (a b : InputValue) (n : ℕ) (xs ys : List Asked) → a.rules ≡ b.rules → AllZip AreSameAsked xs ys →
-    All HasEnoughFor (map (section_of settings a) (enumerate_from n xs)) → All HasEnoughFor (map (section_of settings b) (enumerate_from n ys))
-enough_from settings a b n [] [] rules h enough = All-nil HasEnoughFor
-enough_from settings a b n [] (y ∷ ys) rules h enough = absurd h
-enough_from settings a b n (x ∷ xs) [] rules h enough = absurd h
-enough_from settings a b n (x ∷ xs) (y ∷ ys) rules h enough =
-    All-cons HasEnoughFor (section_of settings b (n, y)) (map (section_of settings b) (enumerate_from (n + 1) ys))
-    (enough_of_asked a b x y settings.budget rules h.0 (enough 0 (section_of settings a (n, x)) (omega arith)))
-    (enough_from settings a b (n + 1) xs ys rules h.1 (λ k d l. enough (suc k) d (omega (arith, l))))
+-- so for the parts of queries of one meaning, one by one
+enough_of_queries : (part other : ℕ × Asked → Part) → ((n : ℕ) (x y : Asked) → AreSameAsked x y → HasEnoughFor (part (n, x)) → HasEnoughFor (other (n, y))) →
+    (n : ℕ) (xs ys : List Asked) → AllZip AreSameAsked xs ys → All HasEnoughFor (map part (enumerate_from n xs)) → All HasEnoughFor (map other (enumerate_from n ys))
+enough_of_queries part other each n [] [] h enough = All-nil HasEnoughFor
+enough_of_queries part other each n [] (y ∷ ys) h enough = absurd h
+enough_of_queries part other each n (x ∷ xs) [] h enough = absurd h
+enough_of_queries part other each n (x ∷ xs) (y ∷ ys) h enough =
+    All-cons HasEnoughFor (other (n, y)) (map other (enumerate_from (n + 1) ys))
+    (each n x y h.0 (enough 0 (part (n, x)) (omega arith)))
+    (enough_of_queries part other each (n + 1) xs ys h.1 (λ k d l. enough (suc k) d (omega (arith, l))))
+
+-- and for what is said of the rules
+enough_of_rules : (a b : InputValue) (budget : ℕ) → a.names ≡ b.names → a.rules ≡ b.rules → All HasEnoughFor (map (judged_of a.names a.rules budget) (enumerate_from 0 a.rules)) →
+    All HasEnoughFor (map (judged_of b.names b.rules budget) (enumerate_from 0 b.rules))
+enough_of_rules a b budget names rules enough =
+    subst (λ (ns : List (List ℕ)). All HasEnoughFor (map (judged_of ns b.rules budget) (enumerate_from 0 b.rules))) names
+    (subst (λ (rs : List Rule). All HasEnoughFor (map (judged_of a.names rs budget) (enumerate_from 0 rs))) rules enough)
+
+module _ (settings : SettingsValue) (a b : InputValue) (same : AreSameInput a b) where
+  enough_in : (mode : Mode) → All HasEnoughFor (parts_in mode a.queries a.rules (question_of settings a) a.names settings.budget) →
+      All HasEnoughFor (parts_in mode b.queries b.rules (question_of settings b) b.names settings.budget)
+  enough_in Plain enough =
+      enough_of_queries (section_of a.queries (question_of settings a)) (section_of b.queries (question_of settings b))
+      (λ n x y h e. enough_of_asked a b x y settings.budget same.rules h e) 0 a.queries b.queries same.queries enough
+  enough_in Within enough =
+      let compared = map (compared_of a.queries (question_of settings a)) (enumerate_from 0 a.queries) in
+      let judged = map (judged_of a.names a.rules settings.budget) (enumerate_from 0 a.rules) in
+      All-append HasEnoughFor (map (compared_of b.queries (question_of settings b)) (enumerate_from 0 b.queries)) (map (judged_of b.names b.rules settings.budget) (enumerate_from 0 b.rules))
+      (enough_of_queries (compared_of a.queries (question_of settings a)) (compared_of b.queries (question_of settings b))
+      (λ n x y h e. enough_of_asked a b x y settings.budget same.rules h e) 0 a.queries b.queries same.queries
+      (All-from_contains HasEnoughFor compared (λ p i. All-contains HasEnoughFor (compared ++ judged) p enough (Contains-append_left compared judged p i))))
+      (enough_of_rules a b settings.budget same.names same.rules
+      (All-from_contains HasEnoughFor judged (λ p i. All-contains HasEnoughFor (compared ++ judged) p enough (Contains-append_right compared judged p i))))
 
 -- where a budget is enough for the one it is for the other
 pub enough_of_input : (settings : SettingsValue) (a b : InputValue) → AreSameInput a b → All HasEnoughFor (parts_of settings a) → All HasEnoughFor (parts_of settings b)
-enough_of_input settings a b same enough = enough_from settings a b 0 a.queries b.queries same.rules same.queries enough
+enough_of_input settings a b same enough = enough_in settings a b same settings.mode enough
 
 -- an exact union of the one problem is one of the other
 pub exact_of_asked : (a b : InputValue) (x y : Asked) (union : List Query) → a.rules ≡ b.rules → AreSameAsked x y → IsExact (problem_of a x.query) union → IsExact (problem_of b y.query) union

@@ -13,7 +13,8 @@ use Rattle.ucq_outside.proofs.Taken.{all_then_all, all_then_prefix, rose_in_one}
 use Rattle.ucq_terms.proofs.Lists.{Any-contains, Any-from_contains, Contains-cons_cases, Contains-empty, Contains-first, Contains-rest}
 use Rattle.ucq_run.specs.declared.outcome.Outcome.{Outcome}
 use Rattle.ucq_run.specs.declared.outcome.Outcome.TheVariants.{Finished, Cut, NoMemory, BadWords, ReadFault, TooLong, Refused, WriteFault}
-use Rattle.ucq_run.specs.Parts.{Part, section, PartText, IsSectionText, IsTextOf, AreTextsOf, join, NoneIsCut, SomeIsCut, HasEnoughFor}
+use Rattle.ucq_run.specs.Compared.{IsComparedText, IsJudgedText}
+use Rattle.ucq_run.specs.Parts.{Part, section, compared, judged, PartText, IsSectionText, IsTextOf, AreTextsOf, join, NoneIsCut, SomeIsCut, HasEnoughFor}
 use Rattle.ucq_run.specs.Printed.{PrintsAll, PrintsBeginning, PrintsFor, PrintsParts, PrintsSome, ended}
 use Rattle.ucq_run.proofs.Written.{GoOn}
 
@@ -59,6 +60,8 @@ parts_some parts out (Refused fault) h = absurd h
 -- a part whose text is cut had no budget that is enough
 is_short : (part : Part) (t : PartText) → IsTextOf part t → t.cut ≡ true → ¬ HasEnoughFor part
 is_short (section header q) t (text, is, joined) e = (subst (λ (b : Bool). IsSectionText q b text) e is).short
+is_short (compared header q number queries) t (text, lines, is, joined) e = (subst (λ (b : Bool). IsComparedText q number queries b text lines) e is).0.short
+is_short (judged r) t is e = let o = subst (λ (b : Bool). IsJudgedText r b t.text) e is in λ enough. o.cut.short (enough o.small)
 
 some_short : (parts : List Part) (texts : List PartText) (t : PartText) → AreTextsOf parts texts → Contains texts t → t.cut ≡ true →
     (part : Part) × Contains parts part × (¬ HasEnoughFor part)
@@ -204,3 +207,14 @@ whole_list parts out P h = record { texts = h.texts; are = subst (λ (ps : List 
 pub all_printed : (parts : List Part) (out : SinkChange) (cut : Bool) → HasPrinted parts (length parts) out cut → PrintsParts parts out (ended cut)
 all_printed parts out true h = whole_list parts out SomeIsCut h
 all_printed parts out false h = whole_list parts out NoneIsCut h
+
+-- what was printed of a part is printed of it for want of memory, too
+pub memory_ends : (part : Part) (out : SinkChange) (o : Outcome) → PrintsFor part out o → PrintsFor part out NoMemory
+memory_ends part out Finished (text, is, took) = inr (record { text = text; cut = false }, is, TookPrefix-whole out text took)
+memory_ends part out Cut (text, is, took) = inr (record { text = text; cut = true }, is, TookPrefix-whole out text took)
+memory_ends part out NoMemory h = h
+memory_ends part out WriteFault (rose, some) = inr some
+memory_ends part out BadWords h = absurd h
+memory_ends part out (ReadFault file at) h = absurd h
+memory_ends part out (TooLong file) h = absurd h
+memory_ends part out (Refused fault) h = absurd h

@@ -12,12 +12,14 @@ use Rattle.ucq_reader.specs.declared.input.Asked.{Asked}
 use Rattle.ucq_reader.specs.Input.{InputValue}
 use Rattle.ucq_print.specs.Laws.{AreReadableNames, ArePrintable, AreSectionLines, Headed, headed_lines, HeaderIsLine, IsHeaded, IsLabelLine, IsLine, SectionsAreTold, TextsAreSections}
 use Rattle.ucq_print.specs.Texts.{answered_lines, finished_lines, lines_text, rows_cut_lines, section_line, wide_cut_lines}
+use Rattle.ucq_words.specs.declared.values.Mode.{Mode}
+use Rattle.ucq_words.specs.declared.values.Mode.TheVariants.{Plain}
 use Rattle.ucq_words.specs.Settings.{JobValue, files, make, SettingsValue}
 use Rattle.ucq_run.specs.Cuts.{IsCutText}
 use Rattle.ucq_run.specs.Finished.{Question, question_of, IsPrintedIn}
 use Rattle.ucq_run.specs.Inputs.{job_form, problem_of}
 use Rattle.ucq_run.specs.Laws.{HasSection, IsBehindHeader, IsSectionOf}
-use Rattle.ucq_run.specs.Parts.{Part, section, PartText, IsSectionText, IsTextOf, AreTextsOf, header_of, join, parts_of}
+use Rattle.ucq_run.specs.Parts.{Part, section, PartText, IsSectionText, IsTextOf, AreTextsOf, header_of, join, parts_in, parts_of, section_of}
 
 -- ---- numbers
 
@@ -136,10 +138,11 @@ record IsHeadedSection (C : Bool → Type 0) (settings : SettingsValue) (input :
   allowed : C cut
   section : IsSectionText (question_of settings input q.1.query) cut (lines_text s.lines)
 
--- what is asked of files whose names are readable, within the limits
+-- what is asked without a mode of files whose names are readable, within the limits
 pub record IsOfFiles (settings : SettingsValue) (input : InputValue) : Type 0 where
   pub given : List (List ℕ)
   pub job : settings.job ≡ files given
+  pub plain : settings.mode ≡ Plain
   pub readable : AreReadableNames input.names
   pub budget : settings.budget ≤ 65536
   pub rules : length input.rules ≤ 4096
@@ -197,7 +200,7 @@ module _ (sections : TextsAreSections) (C : Bool → Type 0) (settings : Setting
       )
 
   abbrev parts_with : List Asked → ℕ → List Asked → List Part
-  parts_with all n qs = map (λ (q : ℕ × Asked). section (header_of all q.0 q.1) (question q.1)) (enumerate_from n qs)
+  parts_with all n qs = map (section_of all (question_of settings input)) (enumerate_from n qs)
 
   record AreHeaded (n : ℕ) (qs : List Asked) (texts : List PartText) : Type 0 where
     headed : List Headed
@@ -238,7 +241,10 @@ module _ (sections : TextsAreSections) (C : Bool → Type 0) (settings : Setting
   some_same : (x y : Asked) → Some x ≡ Some y → x ≡ y
   some_same x y e = cc
 
-  module _ (texts : List PartText) (allowed : All (λ (t : PartText). C t.cut) texts) (are : AreTextsOf (parts_of settings input) texts) where
+  module _ (texts : List PartText) (allowed : All (λ (t : PartText). C t.cut) texts) (of_parts : AreTextsOf (parts_of settings input) texts) where
+    are : AreTextsOf (parts_with input.queries 0 input.queries) texts
+    are = subst (λ (mode : Mode). AreTextsOf (parts_in mode input.queries input.rules (question_of settings input) input.names settings.budget) texts) of.plain of_parts
+
     headed_all : length input.queries ≢ 1 → AreHeaded 0 input.queries texts
     headed_all several = let few = of.queries in are_headed input.queries several 0 input.queries texts (omega (arith, few)) of.labels allowed are
 

@@ -1,4 +1,5 @@
 -- The text of a part that is cut.
+use mathlib.Core.Logic.{inl, inr}
 use Rattle.std.specs.Prelude.{◌≡◌, ◌<◌, ◌≤◌, ◌⊎◌, ℕ, List, length}
 use Rattle.ucq_terms.specs.Syntax.{Problem, Query}
 use Rattle.ucq_antichain.specs.declared.Row.{Row}
@@ -35,6 +36,11 @@ pub record IsWideCutText (names : List (List ℕ)) (problem : Problem) (budget :
 
 abbrev pub IsCutText : List (List ℕ) → Problem → ℕ → List ℕ → Type 0
 IsCutText names problem budget text = IsRowsCutText names problem budget text ⊎ IsWideCutText names problem budget text
+
+-- the rows that the text of a cut lists
+abbrev pub rows_of : (names : List (List ℕ)) (problem : Problem) (budget : ℕ) (text : List ℕ) → IsCutText names problem budget text → List Row
+rows_of names problem budget text (inl c) = c.rows
+rows_of names problem budget text (inr c) = c.rows
 
 -- the text of a cut, which comes only where the budget isn't enough
 pub record IsCutTextOf (q : Question) (text : List ℕ) : Type 0 where

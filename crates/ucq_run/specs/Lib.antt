@@ -2,6 +2,7 @@ pub mod Inputs
 pub mod Causes
 pub mod Finished
 pub mod Cuts
+pub mod Compared
 pub mod Parts
 pub mod Printed
 pub mod Outcomes

@@ -9,7 +9,7 @@ abbrev pub outcome_line : Outcome → List ℕ
 outcome_line outcomes.Finished = []
 outcome_line outcomes.Cut = []
 outcome_line outcomes.NoMemory = codes "ucq: out of memory\n"
-outcome_line outcomes.BadWords = codes "ucq: usage: ucq [--workers N] [--budget N] [--answers] FILE... or ucq [--workers N] [--budget N] --make N\n"
+outcome_line outcomes.BadWords = codes "ucq: usage: ucq [--workers N] [--budget N] [--answers] [MODE] FILE... or ucq [--workers N] [--budget N] --make N\n"
 outcome_line (outcomes.ReadFault file at) = codes "ucq: read fault in file " ++ decimal file ++ codes " at byte " ++ decimal at ++ codes "\n"
 outcome_line (outcomes.TooLong file) = codes "ucq: files too long at file " ++ decimal file ++ codes "\n"
 outcome_line (outcomes.Refused fault) = refusal_line fault

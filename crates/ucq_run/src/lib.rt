@@ -6,9 +6,11 @@ ghost use Rattle.ucq_run.specs.Inputs.{call_of};
 ghost use Rattle.ucq_outside.specs.Taken.{change_of};
 ghost use Rattle.ucq_run.specs.Run.{IsFullRun};
 
+mod compared;
 mod finished;
 mod form;
 mod inputs;
+mod judged;
 pub mod laws;
 mod outcome;
 mod over_facts;

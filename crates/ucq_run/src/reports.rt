@@ -100,7 +100,7 @@ pub fn report<E: Sink>(alloc: Global, err: &mut E, outcome: Outcome) -> u8
         Outcome::NoMemory => tell(err, b"ucq: out of memory\n", 1),
         Outcome::BadWords => tell(
             err,
-            b"ucq: usage: ucq [--workers N] [--budget N] [--answers] FILE... or ucq [--workers N] [--budget N] --make N\n",
+            b"ucq: usage: ucq [--workers N] [--budget N] [--answers] [MODE] FILE... or ucq [--workers N] [--budget N] --make N\n",
             2,
         ),
         Outcome::ReadFault { file, at } => tell_made(err, read_fault_line(alloc, file, at), 3),

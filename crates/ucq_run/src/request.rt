@@ -12,7 +12,7 @@ use ucq_facts::Facts;
 use ucq_outside::Shelf;
 use ucq_reader::{Asked, Input};
 use ucq_terms::{Names, Rule};
-use ucq_words::{WordsFault, settings};
+use ucq_words::{Mode, WordsFault, settings};
 
 /// What all queries of an input share: its names and facts, and how the queries are solved and printed.
 #[derive(Drop)]
@@ -23,6 +23,7 @@ pub struct Shared {
     pub budget: u32,
     pub workers: u32,
     pub form: Form,
+    pub mode: Mode,
 }
 
 /// What is asked: the queries of an input, under its rules.
@@ -65,6 +66,7 @@ pub fn prepare<H: Shelf>(alloc: Global, words: &[String], shelf: &mut H) -> Resu
                 budget: settings.budget,
                 workers: settings.workers,
                 form,
+                mode: settings.mode,
             };
             Ok(Request {
                 shared,

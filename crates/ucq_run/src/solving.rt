@@ -83,7 +83,7 @@ pub fn solve_alone<'p>(
 }
 
 /// The store of the problem, finished or cut, on one thread.
-fn store_of<'p>(alloc: Global, problem: &'p Problem, budget: u32) -> Result<Store<'p>, NoMemory>
+pub fn store_of<'p>(alloc: Global, problem: &'p Problem, budget: u32) -> Result<Store<'p>, NoMemory>
     requires some { 0 < budget }
     requires small { budget ≤ ROWS }
     ensures done { IfOk result (λ s. IsFinished s ⊎ IsCut s) }
@@ -111,4 +111,23 @@ pub fn solve_by_crew<'p, G: Gate + Sync, R: Threads + Wait + Sync>(
     let store = rounds(rt, alloc, problem, shared.budget, shared.workers, gate)?;
     let answers = answers_by_threads(rt, alloc, shared, &store)?;
     Ok(Solved { store, answers })
+}
+
+/// The store of the problem, by as many workers as are asked for, who pass the gate.
+pub fn store_by_crew<'p, G: Gate + Sync, R: Threads + Wait + Sync>(
+    rt: &R,
+    alloc: Global,
+    shared: &Shared,
+    problem: &'p Problem,
+    gate: &G,
+) -> Result<Store<'p>, NoMemory>
+    requires { IsWithinLimits shared.now }
+    ensures done { IfOk result (λ s. IsFinished s ⊎ IsCut s) }
+    ensures problem { IfOk result (λ s.
+        (s.problem ≡ problem.now) × (s.budget ≡ shared.now.budget)) }
+{
+    if shared.workers == 1 {
+        return store_of(alloc, problem, shared.budget);
+    }
+    rounds(rt, alloc, problem, shared.budget, shared.workers, gate)
 }

@@ -79,7 +79,7 @@ more_rules rule others first [] last e = e
 more_rules rule others first (next ∷ rest) last ((r, i, s), later) = ((r, Contains-rest rule others r i, s), more_rules rule others next rest last later)
 
 -- the atoms, asked for the rule's frontier, before the query is made normal
-abbrev plain : Rule → List Atom → Query
+abbrev pub plain : Rule → List Atom → Query
 plain rule atoms = record { answers = map Variable (frontier_of rule); atoms = atoms }
 
 -- ---- from containment
@@ -236,7 +236,7 @@ follows_plainly rule others follows = record {
 
 -- ---- normal queries
 
-made_normal : (rule : Rule) (atoms : List Atom) → Covers (plain rule atoms) (asked_of rule atoms) × Covers (asked_of rule atoms) (plain rule atoms)
+pub made_normal : (rule : Rule) (atoms : List Atom) → Covers (plain rule atoms) (asked_of rule atoms) × Covers (asked_of rule atoms) (plain rule atoms)
 made_normal rule atoms =
     let i = AreIsomorphic-normal (plain rule atoms) in
     (Covers-forth (plain rule atoms) (asked_of rule atoms) i, Covers-back (plain rule atoms) (asked_of rule atoms) i)

@@ -25,9 +25,13 @@ files_rule = record (new_rule (codes "file")) { action = Some Append }
 abbrev pub bare : App
 bare = on_top (λ s. record s { no_binary_name = true; disable_help_flag = true; disable_version_flag = true }) (new_app (codes "ucq"))
 
--- `ucq [--workers N] [--budget N] [--make N] [--answers] FILE...`
+-- with the flags
+abbrev pub with_flags : App → App
+with_flags app = with_rule (with_rule app (flag_rule (codes "answers"))) (flag_rule (codes "within"))
+
+-- `ucq [--workers N] [--budget N] [--make N] [--answers] [--within] FILE...`
 abbrev pub command : App
-command = with_rule (with_rule (with_rule (with_rule (with_rule bare (option_rule (codes "workers"))) (option_rule (codes "budget"))) (option_rule (codes "make"))) (flag_rule (codes "answers"))) files_rule
+command = with_rule (with_flags (with_rule (with_rule (with_rule bare (option_rule (codes "workers"))) (option_rule (codes "budget"))) (option_rule (codes "make")))) files_rule
 
 -- the files, in their order
 abbrev pub files_in : List Row → List Text

@@ -1,5 +1,5 @@
 -- The settings that words stand for.
-use Rattle.std.specs.Prelude.{◌≡◌, ◌<◌, ◌≤◌, ◌+◌, ◌-◌, ◌*◌, ℕ, Bool, false, List, [], length, fold, map, All, codes, string_bytes, Option, Some, None, Result, Ok, Err}
+use Rattle.std.specs.Prelude.{◌≡◌, ◌<◌, ◌≤◌, ◌+◌, ◌-◌, ◌*◌, ℕ, Bool, true, false, ◌||◌, List, [], length, fold, map, All, codes, string_bytes, Option, Some, None, Result, Ok, Err}
 use Rattle.clap.specs.Walk.{Row, Text, first_of}
 use Rattle.clap.specs.Takes.{is_given}
 use Rattle.clap.specs.Simple.{matches_of}
@@ -7,6 +7,8 @@ use Rattle.clap.specs.Faults.{fault_of}
 use Rattle.ucq_words.specs.Command.{command, files_in}
 use Rattle.ucq_words.specs.declared.values.Job.{Job}
 use Rattle.ucq_words.specs.declared.values.Job.TheVariants.{Files, Make}
+use Rattle.ucq_words.specs.declared.values.Mode.{Mode}
+use Rattle.ucq_words.specs.declared.values.Mode.TheVariants.{Plain, Within}
 use Rattle.ucq_words.specs.declared.values.Settings.{Settings}
 use Rattle.ucq_words.specs.declared.WordsFault.{WordsFault}
 use Rattle.ucq_words.specs.declared.WordsFault.TheVariants.{BadWords, Memory}
@@ -47,6 +49,7 @@ pub record SettingsValue : Type 0 where
   pub workers : ℕ
   pub budget : ℕ
   pub answers : Bool
+  pub mode : Mode
   pub job : JobValue
 
 -- the job as the code has it
@@ -56,7 +59,7 @@ job_value (Make number) = make number
 
 -- the settings as the code has them
 abbrev pub settings_value : Settings → SettingsValue
-settings_value s = record { workers = s.workers; budget = s.budget; answers = s.answers; job = job_value s.job }
+settings_value s = record { workers = s.workers; budget = s.budget; answers = s.answers; mode = s.mode; job = job_value s.job }
 
 -- 1 to 64 files, in this order
 pub record IsReading (given listed : List Text) : Type 0 where
@@ -64,26 +67,36 @@ pub record IsReading (given listed : List Text) : Type 0 where
   pub some : 1 ≤ length given
   pub few : length given ≤ 64
 
--- the value of `--make` spells 1 to 4000, there is no file, and `--answers` isn't given
-pub record IsMaking (digits : Text) (given : List Text) (answers : Bool) (number : ℕ) : Type 0 where
+-- the value of `--make` spells 1 to 4000, there is no file, and neither answers nor a mode are asked for
+pub record IsMaking (digits : Text) (given : List Text) (more : Bool) (number : ℕ) : Type 0 where
   pub spelled : SpellsNumber 1 4000 digits number
   pub alone : given ≡ []
-  pub plain : answers ≡ false
+  pub plain : more ≡ false
 
--- the job by the value of `--make`, the files, and whether `--answers` is given
+-- the job by the value of `--make`, the files, and whether more is asked for, answers or a mode
 abbrev pub IsJob : Option Text → List Text → Bool → JobValue → Type 0
-IsJob None given answers (files listed) = IsReading given listed
-IsJob None given answers (make number) = ⊥
-IsJob (Some digits) given answers (files listed) = ⊥
-IsJob (Some digits) given answers (make number) = IsMaking digits given answers number
+IsJob None given more (files listed) = IsReading given listed
+IsJob None given more (make number) = ⊥
+IsJob (Some digits) given more (files listed) = ⊥
+IsJob (Some digits) given more (make number) = IsMaking digits given more number
+
+-- the mode, by whether `--within` is given
+abbrev pub mode_by : Bool → Mode
+mode_by true = Within
+mode_by false = Plain
+
+-- whether answers or a mode are asked for
+abbrev pub asks_more : List Row → Bool
+asks_more rows = is_given (codes "answers") rows || is_given (codes "within") rows
 
 -- The settings by clap's matches: 1 to 64 workers, or 1 where their number isn't given; a budget of 1 to 65,536 rows, or of
--- 4,096; whether `--answers` is given; and the job.
+-- 4,096; whether `--answers` is given; the mode; and the job.
 pub record AreSettings (rows : List Row) (v : SettingsValue) : Type 0 where
   pub workers : IsNumber 1 64 1 (first_of (codes "workers") rows) v.workers
   pub budget : IsNumber 1 65536 4096 (first_of (codes "budget") rows) v.budget
   pub answers : v.answers ≡ is_given (codes "answers") rows
-  pub job : IsJob (first_of (codes "make") rows) (files_in rows) v.answers v.job
+  pub mode : v.mode ≡ mode_by (is_given (codes "within") rows)
+  pub job : IsJob (first_of (codes "make") rows) (files_in rows) (asks_more rows) v.job
 
 -- The words stand for these settings: clap takes them, and its matches are these.
 pub record StandFor (words : List Text) (v : SettingsValue) : Type 0 where
@@ -92,9 +105,9 @@ pub record StandFor (words : List Text) (v : SettingsValue) : Type 0 where
 
 -- the job, or that there is none
 abbrev pub AnswersJob : Option Text → List Text → Bool → Result Job WordsFault → Type 0
-AnswersJob value given answers (Ok job) = IsJob value given answers (job_value job)
-AnswersJob value given answers (Err BadWords) = (v : JobValue) → IsJob value given answers v → ⊥
-AnswersJob value given answers (Err Memory) = Unit {0}
+AnswersJob value given more (Ok job) = IsJob value given more (job_value job)
+AnswersJob value given more (Err BadWords) = (v : JobValue) → IsJob value given more v → ⊥
+AnswersJob value given more (Err Memory) = Unit {0}
 
 -- the settings that the words stand for, or that they stand for none
 abbrev pub AnswersWords : List Text → Result Settings WordsFault → Type 0

@@ -55,6 +55,7 @@ fn command<'a>(alloc: Global) -> Result<Command<'a>, AllocError>
         .arg(option_arg(alloc, "budget"))?
         .arg(option_arg(alloc, "make"))?
         .arg(flag_arg(alloc, "answers"))?
+        .arg(flag_arg(alloc, "within"))?
         .arg(files_arg(alloc))
 }
 

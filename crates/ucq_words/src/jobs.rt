@@ -17,27 +17,23 @@ const MOST_FILES: usize = 64;
 /// The largest input that is made.
 const MOST_MADE: u32 = 4_000;
 
-/// The job by clap's matches, where `answers` says whether answers are to be printed.
-pub(crate) fn job_of(
-    alloc: Global,
-    found: &ArgMatches<'_>,
-    answers: bool,
-) -> Result<Job, WordsFault>
+/// The job by clap's matches, where `more` says whether answers are asked for or a mode.
+pub(crate) fn job_of(alloc: Global, found: &ArgMatches<'_>, more: bool) -> Result<Job, WordsFault>
     ensures { AnswersJob (first_of (codes "make") (rows_of (found_of found.now)))
-        (files_in (rows_of (found_of found.now))) answers result }
+        (files_in (rows_of (found_of found.now))) more result }
 {
     let names = files_of(found).unwrap_or(&[]);
     match value_of(found, "make") {
-        Some(digits) => making(digits, names, answers),
-        None => reading(alloc, names, answers),
+        Some(digits) => making(digits, names, more),
+        None => reading(alloc, names, more),
     }
 }
 
-/// The job with `--make`, which stands beside no file and not beside `--answers`.
-fn making(digits: &str, names: &[&str], answers: bool) -> Result<Job, WordsFault>
-    ensures { AnswersJob (Some digits.now) (map (λ name. name.now) names.now) answers result }
+/// The job with `--make`, which stands beside no file, not beside `--answers`, and beside no mode.
+fn making(digits: &str, names: &[&str], more: bool) -> Result<Job, WordsFault>
+    ensures { AnswersJob (Some digits.now) (map (λ name. name.now) names.now) more result }
 {
-    if !names.is_empty() || answers {
+    if !names.is_empty() || more {
         return Err(WordsFault::BadWords);
     }
     match number_of(digits.as_bytes(), 1, MOST_MADE) {
@@ -47,8 +43,8 @@ fn making(digits: &str, names: &[&str], answers: bool) -> Result<Job, WordsFault
 }
 
 /// The job without `--make`: to read 1 to 64 files.
-fn reading(alloc: Global, names: &[&str], answers: bool) -> Result<Job, WordsFault>
-    ensures { AnswersJob None (map (λ name. name.now) names.now) answers result }
+fn reading(alloc: Global, names: &[&str], more: bool) -> Result<Job, WordsFault>
+    ensures { AnswersJob None (map (λ name. name.now) names.now) more result }
 {
     if names.is_empty() || names.len() > MOST_FILES {
         return Err(WordsFault::BadWords);

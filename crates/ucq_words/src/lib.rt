@@ -1,4 +1,4 @@
-//! The words of the command line, after the program's name: `[--workers N] [--budget N] [--answers] FILE...`, or
+//! The words of the command line, after the program's name: `[--workers N] [--budget N] [--answers] [--within] FILE...`, or
 //! `[--workers N] [--budget N] --make N`.
 //!
 //! One simple command of `clap` takes them. So options stand before, between or after files, `--budget=9` is `--budget 9`,
@@ -7,8 +7,8 @@
 //! empty word where no option waits for its value.
 #![tactic(auto)]
 
-ghost use Rattle.std.specs.Prelude.{map, string_bytes};
-ghost use Rattle.ucq_words.specs.Settings.{AnswersWords, OneSettings};
+ghost use Rattle.std.specs.Prelude.{◌≡◌, ◌||◌, map, string_bytes};
+ghost use Rattle.ucq_words.specs.Settings.{AnswersWords, OneSettings, mode_by};
 
 mod command;
 mod jobs;
@@ -19,7 +19,7 @@ use command::{is_given, matches, value_of};
 use jobs::job_of;
 use numbers::number_or;
 use std::alloc::{AllocError, Global};
-pub use values::{Job, Settings};
+pub use values::{Job, Mode, Settings};
 
 /// The workers where their number isn't given.
 const WORKERS: u32 = 1;
@@ -54,7 +54,7 @@ impl From<AllocError> for WordsFault {
 }
 
 /// The settings that the words stand for: each number is 1 to 9 digits and in its range; without `--make` there are 1 to 64
-/// files, and with it there is none, and no `--answers`.
+/// files, and with it there is none, no `--answers` and no `--within`.
 pub fn settings(alloc: Global, words: &[String]) -> Result<Settings, WordsFault>
     ensures { AnswersWords (map (λ w. string_bytes w) words.now) result }
 {
@@ -65,13 +65,29 @@ pub fn settings(alloc: Global, words: &[String]) -> Result<Settings, WordsFault>
         return Err(WordsFault::BadWords);
     };
     let answers = is_given(&found, "answers");
-    let job = job_of(alloc, &found, answers)?;
+    let within = is_given(&found, "within");
+    let job = job_of(alloc, &found, either(answers, within))?;
     Ok(Settings {
         workers,
         budget,
         answers,
+        mode: mode_by(within),
         job,
     })
+}
+
+/// Whether one of the two is given.
+fn either(answers: bool, within: bool) -> bool
+    ensures { result ≡ (answers || within) }
+{
+    answers || within
+}
+
+/// The mode, by whether `--within` is given.
+fn mode_by(within: bool) -> Mode
+    ensures { result ≡ mode_by within }
+{
+    if within { Mode::Within } else { Mode::Plain }
 }
 
 /// Words stand for at most one settings.

@@ -9,6 +9,15 @@ pub enum Job {
     Make(u32),
 }
 
+/// What is printed beside the union of each query.
+#[derive(Clone, Copy, Debug, PartialEq, Eq)]
+pub enum Mode {
+    /// Nothing.
+    Plain,
+    /// Which queries are contained in which, each query without needless atoms, and which rules the others imply.
+    Within,
+}
+
 /// What the words stand for.
 #[derive(Drop)]
 pub struct Settings {
@@ -18,5 +27,6 @@ pub struct Settings {
     pub budget: u32,
     /// Whether answers are to be printed.
     pub answers: bool,
+    pub mode: Mode,
     pub job: Job,
 }

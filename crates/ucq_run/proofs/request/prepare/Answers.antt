@@ -18,8 +18,6 @@ returns-in-Ok-input_of-clause-read g c =
       about = record { indexed = c.in_ok-facts_in_form-in-Ok-input_of.ensures; held = held.facts };
       within = record {
         shared = record { some = budget.low; small = budget.high; one = workers.low; few = workers.high };
-        rules = c.in-Ok-input_of.ensures.rules;
-        queries = c.in-Ok-input_of.ensures.queries;
-        held = held.problem;
+        held = record { few_rules = c.in-Ok-input_of.ensures.rules; few_queries = c.in-Ok-input_of.ensures.queries; rules = held.rules; queries = held.queries };
       };
     }

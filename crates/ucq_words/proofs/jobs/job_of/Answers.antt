@@ -10,5 +10,5 @@ returns-in-Some c =
     let rows = rows_of (found_of c.args.found.now) in
     let value : Some c.in-Some.digits.now ≡ first_of (codes "make") rows = c.in-Some.ensures in
     let names : map (λ name. name.now) c.unwrap_or-names.result.now ≡ files_in rows = search rules in
-    subst (λ (given : List Text). AnswersJob (first_of (codes "make") rows) given c.args.answers c.making.result) names
-    (subst (λ (v : Option Text). AnswersJob v (map (λ name. name.now) c.unwrap_or-names.result.now) c.args.answers c.making.result) value c.making.ensures)
+    subst (λ (given : List Text). AnswersJob (first_of (codes "make") rows) given c.args.more c.making.result) names
+    (subst (λ (v : Option Text). AnswersJob v (map (λ name. name.now) c.unwrap_or-names.result.now) c.args.more c.making.result) value c.making.ensures)
