@@ -4,6 +4,8 @@
 #[cfg(test)]
 mod asserts;
 #[cfg(test)]
+mod conflicts;
+#[cfg(test)]
 mod facts;
 #[cfg(test)]
 mod joins;

@@ -1,0 +1,13 @@
+pub mod Cleared
+pub mod Grown
+pub mod Sorted
+pub mod Sets
+pub mod Targets
+pub mod Sent
+pub mod Gathered
+pub mod Sublists
+pub mod Parts
+pub mod Live
+pub mod Ordering
+pub mod Violated
+pub mod Conflicting

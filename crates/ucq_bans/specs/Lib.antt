@@ -1,0 +1,4 @@
+pub mod Conflicts
+pub mod Verdicts
+pub mod Laws
+pub mod inner

@@ -1,0 +1,4 @@
+-- Words of contracts that no other crate sees.
+pub mod Search
+pub mod Images
+pub mod Parts

@@ -1,0 +1,13 @@
+pub mod Places
+pub mod Firsts
+pub mod Quoting
+pub mod Growing
+pub mod Meaning
+pub mod Rows
+pub mod TablesOf
+pub mod Reading
+pub mod ReadBack
+pub mod Printed
+pub mod ToldLines
+pub mod Caseless
+pub mod Commented
