@@ -13,7 +13,7 @@ from outputs import is_front, same_output
 from run import HERE, PROGRAM, text
 
 # a case, and its workers
-CASES = [('one_rule', 2), ('a_constant_is_answered', 2), ('pruned_while_claimed', 2), ('made', 1)]
+CASES = [('one_rule', 2), ('a_constant_is_answered', 2), ('pruned_while_claimed', 2), ('compared', 2), ('made', 1)]
 
 
 def run(case, workers, shim, **more):
