@@ -44,7 +44,7 @@ module _ (names : List (List ℕ)) (readable : AreReadableNames names) where
   row_is_line row h = marked row.live
     where
       text : IsSingle (query_text names row.query)
-      text = query_is_single names readable row.query h
+      text = query_is_single names readable row.query
 
       mark : (live : Bool) → IsSingle (life_text live)
       mark true = single_run is_told [] refl refl

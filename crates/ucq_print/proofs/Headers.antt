@@ -24,7 +24,7 @@ header_is_line number label small h = record {
   inner = codes "% query " ++ decimal number ++ label_text label;
   is = refl;
   single = (single_both (codes "% query " ++ decimal number) (label_text label)
-      (single_both (codes "% query ") (decimal number) (single_run is_told (codes "% query ") refl refl) (single_number number small)) (single_label label h)).free;
+      (single_both (codes "% query ") (decimal number) (single_run is_told (codes "% query ") refl refl) (single_number number)) (single_label label h)).free;
 }
 
 regroup : (a b c d : List ℕ) → ((a ++ b) ++ c) ++ d ≡ a ++ (b ++ (c ++ d))
@@ -77,7 +77,7 @@ no_header front tail after line c d header is other (rest, e) =
     heads_differ d c after (tail ++ rest) other (append_cancel_left front (d ∷ after) (c ∷ (tail ++ rest)) whole)
 
 -- a remark that goes on by another byte
-no_header_remark : (d : ℕ) (after : List ℕ) → d ≢ 113 → ¬ BeginsASection (codes "% " ++ d ∷ after)
+pub no_header_remark : (d : ℕ) (after : List ℕ) → d ≢ 113 → ¬ BeginsASection (codes "% " ++ d ∷ after)
 no_header_remark d after other = no_header (codes "% ") (codes "uery ") after (codes "% " ++ d ∷ after) 113 d refl refl other
 
 pub answers_begin_no_section : (names tuples : List (List ℕ)) (rest : List ℕ) → ¬ BeginsASection (lines_text (answer_lines names tuples) ++ rest)
@@ -98,8 +98,8 @@ section_lines : (lines : List (List ℕ)) → All IsSectionLine lines → AreSec
 section_lines lines h = record { lines = λ i d b. (h i d b).0; none = λ i d b. (h i d b).1 }
 
 -- a number between some bytes and a line feed
-numbered_line : (before : List ℕ) (n : ℕ) → IsSingle before → n < 2 ^ 64 → IsLine (before ++ decimal n ++ line_feed)
-numbered_line before n h small = record { inner = before ++ decimal n; is = refl; single = (single_both before (decimal n) h (single_number n small)).free }
+numbered_line : (before : List ℕ) (n : ℕ) → IsSingle before → IsLine (before ++ decimal n ++ line_feed)
+numbered_line before n h = record { inner = before ++ decimal n; is = refl; single = (single_both before (decimal n) h (single_number n)).free }
 
 finished_line : IsSectionLine (codes "% finished\n")
 finished_line = (
@@ -109,19 +109,19 @@ finished_line = (
 
 counted_line : (n : ℕ) → n < 2 ^ 64 → IsSectionLine (count_line n)
 counted_line n small = (
-  numbered_line (codes "% queries ") n (single_run is_told (codes "% queries ") refl refl) small,
+  numbered_line (codes "% queries ") n (single_run is_told (codes "% queries ") refl refl),
   no_header (codes "% quer") (codes " ") (drop 7 (count_line n)) (count_line n) 121 105 refl refl (λ f. omega arith),
 )
 
 counted_answers : (n : ℕ) → n < 2 ^ 64 → IsSectionLine (answer_count_line n)
 counted_answers n small = (
-  numbered_line (codes "% answers ") n (single_run is_told (codes "% answers ") refl refl) small,
+  numbered_line (codes "% answers ") n (single_run is_told (codes "% answers ") refl refl),
   no_header_remark 97 (drop 3 (answer_count_line n)) (λ f. omega arith),
 )
 
 cut_at_rows : (n : ℕ) → n < 2 ^ 64 → IsSectionLine (rows_cut_line n)
 cut_at_rows n small = (
-  numbered_line (codes "% cut rows ") n (single_run is_told (codes "% cut rows ") refl refl) small,
+  numbered_line (codes "% cut rows ") n (single_run is_told (codes "% cut rows ") refl refl),
   no_header_remark 99 (drop 3 (rows_cut_line n)) (λ f. omega arith),
 )
 
@@ -130,21 +130,21 @@ cut_at_rule row rule small few =
     let before : List ℕ = codes "% cut wide row " ++ decimal row ++ codes " rule " in
     let free : IsSingle before =
     single_both (codes "% cut wide row " ++ decimal row) (codes " rule ")
-    (single_both (codes "% cut wide row ") (decimal row) (single_run is_told (codes "% cut wide row ") refl refl) (single_number row small))
+    (single_both (codes "% cut wide row ") (decimal row) (single_run is_told (codes "% cut wide row ") refl refl) (single_number row))
     (single_run is_told (codes " rule ") refl refl) in
-    (numbered_line before rule free few, no_header_remark 99 (drop 3 (wide_cut_line row rule)) (λ f. omega arith))
+    (numbered_line before rule free, no_header_remark 99 (drop 3 (wide_cut_line row rule)) (λ f. omega arith))
 
 -- ---- unions, answers and cuts
 
 module _ (names : List (List ℕ)) (readable : AreReadableNames names) where
   line_of_query : (q : Query) → IsPrintable names q → IsSectionLine (query_line names q)
   line_of_query q h = (
-    query_is_line names readable q h,
+    query_is_line names readable q,
     no_header [] (codes " query ") (drop 1 (query_line names q)) (query_line names q) 37 63 refl refl (λ f. omega arith),
   )
 
   line_of_tuple : (tuple : List ℕ) → All (λ c. c < length names) tuple → IsSectionLine (tuple_line names tuple)
-  line_of_tuple tuple h = (tuple_is_line names readable tuple h, no_header_remark 40 (drop 3 (tuple_line names tuple)) (λ f. omega arith))
+  line_of_tuple tuple h = (tuple_is_line names readable tuple, no_header_remark 40 (drop 3 (tuple_line names tuple)) (λ f. omega arith))
 
   line_of_row : (row : Row) → IsPrintable names row.query → IsSectionLine (row_line names row)
   line_of_row row h = (row_is_line names readable row h, go row.live)
@@ -158,7 +158,7 @@ module _ (names : List (List ℕ)) (readable : AreReadableNames names) where
     record {
       inner = codes "% left " ++ query_text names left;
       is = sym (append_assoc (codes "% left ") (query_text names left) line_feed);
-      single = (single_both (codes "% left ") (query_text names left) (single_run is_told (codes "% left ") refl refl) (query_is_single names readable left h)).free;
+      single = (single_both (codes "% left ") (query_text names left) (single_run is_told (codes "% left ") refl refl) (query_is_single names readable left)).free;
     },
     no_header_remark 108 (drop 3 (left_line names left)) (λ f. omega arith),
   )

@@ -11,7 +11,7 @@ use Rattle.ucq_terms.proofs.Numbering.{Contains-first_occurrences}
 use Rattle.ucq_terms.proofs.Subsets.{IsSubset-contains}
 use Rattle.ucq_terms.proofs.Texts.{IsEquality-bytes_eq, number_of_held}
 use Rattle.ucq_terms.proofs.Zips.{Contains-from_enumerate}
-use Rattle.ucq_chase.specs.Names.{IsHeldTerm, IsHeldAtom, AreHeldAtoms, IsHeldQuery, IsHeldRule, IsHeldProblem}
+use Rattle.ucq_chase.specs.Names.{IsHeldTerm, IsHeldAtom, AreHeldAtoms, IsHeldQuery, IsHeldRule}
 use Rattle.ucq_reader.specs.declared.input.Asked.{Asked}
 use Rattle.ucq_reader.specs.Names.{number, in_order}
 use Rattle.ucq_reader.specs.Meaning.{Symbol, constant, variable, SymbolAtom, SymbolRule, SymbolQuery, SymbolAsked, Meant}

@@ -1,14 +1,14 @@
 -- No label of what files stand for has a line feed.
-use Rattle.std.proofs.Common.{◌≡◌, ℕ, Bool, not, List, [], ◌∷◌, ◌++◌, All, Contains, refl, sym, ap, subst, arith}
+use Rattle.std.proofs.Common.{◌≡◌, ℕ, List, [], ◌∷◌, ◌++◌, All, Contains, refl, sym, ap, subst, arith}
 use Rattle.std.specs.Prelude.{Option, Some, None, Result, Ok, Err}
-use Rattle.std.specs.List.{filter_map, list_all}
+use Rattle.std.specs.List.{filter_map}
 use Rattle.ucq_terms.proofs.Lists.{Contains-first}
 use Rattle.ucq_lexer.specs.Bytes.{is_label_byte}
 use Rattle.ucq_lexer.specs.Spelling.{IsLabel}
 use Rattle.ucq_reader.specs.declared.ReadFault.{ReadFault}
 use Rattle.ucq_reader.specs.declared.input.Asked.{Asked}
 use Rattle.ucq_reader.specs.Names.{Declared}
-use Rattle.ucq_reader.specs.Statement.{Word, label, dot, Statement, Sentence, a_query, a_sentence, sentence_words, spelling}
+use Rattle.ucq_reader.specs.Statement.{label, dot, Statement, a_query, a_sentence, sentence_words}
 use Rattle.ucq_reader.specs.Meaning.{Meant, SymbolAsked, Placed, asked_of, files_fault, meant, placed, with_queries}
 use Rattle.ucq_reader.specs.Input.{InputValue, IsAskedOf, IsInput}
 use Rattle.ucq_print.specs.Laws.{IsLabelLine}

@@ -6,6 +6,7 @@ mod ToldLines
 pub mod Unions
 pub mod CutTexts
 pub mod Headers
+mod ComparingLines
 pub mod SectionTexts
 pub mod InputNames
 pub mod InputLabels

@@ -1,10 +1,10 @@
 -- No line feed stands in a name, in a number or in the text of a query or of a tuple.
-use Rattle.std.proofs.Common.{◌≡◌, ◌≢◌, ℕ, ◌<◌, ◌^◌, Bool, true, false, not, List, [], ◌∷◌, ◌++◌, flat_map, refl, sym, ap, ◌∙◌, subst, arith, inl, inr, All, Contains}
-use Rattle.std.specs.Prelude.{◌⊎◌, ◌==◌, codes, decimal}
+use Rattle.std.proofs.Common.{◌≡◌, ◌≢◌, ℕ, zero, suc, ◌+◌, Bool, true, false, not, List, [], ◌∷◌, ◌++◌, flat_map, refl, sym, ap, ◌∙◌, subst, arith, inl, inr, All, Contains}
+use Rattle.std.specs.Prelude.{◌⊎◌, ◌==◌, ◌/◌, ◌%◌, nat_lt, if◌then◌else◌, codes, decimal}
+use Rattle.std.specs.Fmt.{digit_glyph, digits, digits_onto}
 use Rattle.std.specs.List.{list_all}
 use Rattle.std.proofs.lemmas.Bool.{and_parts}
-use Rattle.std.proofs.lemmas.Fmt.{decimal_is_IsNumeral}
-use Rattle.std.proofs.lemmas.List.Elements.{All-contains, Contains-append_cases}
+use Rattle.std.proofs.lemmas.List.Elements.{Contains-append_cases}
 use Rattle.ucq_terms.specs.declared.Term.{Term}
 use Rattle.ucq_terms.specs.declared.Term.TheVariants.{Constant, Variable}
 use Rattle.ucq_terms.specs.Syntax.{Atom, Query}
@@ -15,8 +15,7 @@ use Rattle.ucq_lexer.specs.Spelling.{StartsStretch, IsIri, IsInteger, IsUnits, n
 use Rattle.ucq_eval.specs.Tuples.{joined}
 use Rattle.ucq_print.specs.Texts.{term_text, terms_text, atom_text, answers_text, numbered_text}
 use Rattle.ucq_print.specs.Laws.{IsNameText, AreReadableNames}
-use Rattle.ucq_print.proofs.Spelled.{digits_run, word_run}
-use Rattle.ucq_print.proofs.ReadBack.{IsPrintedTerm, IsPrintedAtom, IsPrinted}
+use Rattle.ucq_print.proofs.Spelled.{word_run}
 
 -- no line feed stands there
 pub record IsSingle (bytes : List ℕ) : Type 0 where
@@ -98,8 +97,37 @@ single_name bytes (inr (inl h)) = single_iri bytes h
 single_name bytes (inr (inr (inl h))) = single_integer bytes h
 single_name bytes (inr (inr (inr h))) = single_text bytes h
 
-pub single_number : (n : ℕ) → n < 2 ^ 64 → IsSingle (decimal n)
-single_number n h = single_run is_digit (decimal n) refl (digits_run (decimal n) (decimal_is_IsNumeral n h).0.1)
+-- what is printed of a number without a name is nothing
+single_name_text : (names : List (List ℕ)) → All IsNameText names → (number : ℕ) → IsSingle (name_text names number)
+single_name_text [] h number = single_nothing
+single_name_text (name ∷ names) h zero = single_name name (h 0 [] (omega arith))
+single_name_text (name ∷ names) h (suc number) = single_name_text names (λ k d l. h (suc k) d (omega (arith, l))) number
+
+-- ---- numbers
+
+other_glyph : (d : ℕ) → digit_glyph false d ≢ 10
+other_glyph d = go (nat_lt d 10)
+  where
+    go : (small : Bool) → (if small then 48 + d else (if false then 55 + d else 87 + d)) ≢ 10
+    go true = λ e. omega (arith, e)
+    go false = λ e. omega (arith, e)
+
+single_digits : (k n : ℕ) (after : List ℕ) → IsSingle after → IsSingle (digits_onto k 10 false n after)
+single_digits zero n after h = h
+single_digits (suc k) n after h =
+    go (single_digits k (n / 10) (digit_glyph false (n % 10) ∷ after) more) (n / 10 == 0)
+  where
+    more : IsSingle (digit_glyph false (n % 10) ∷ after)
+    more = single_first (digit_glyph false (n % 10)) after (other_glyph (n % 10)) h
+
+    go : IsSingle (digits_onto k 10 false (n / 10) (digit_glyph false (n % 10) ∷ after)) → (last : Bool) →
+        IsSingle (if last then digit_glyph false (n % 10) ∷ after else digits_onto k 10 false (n / 10) (digit_glyph false (n % 10) ∷ after))
+    go rest true = more
+    go rest false = rest
+
+pub single_number : (n : ℕ) → IsSingle (decimal n)
+unfolding digits
+single_number n = single_digits 64 n [] single_nothing
 
 -- ---- queries
 
@@ -115,30 +143,30 @@ abbrev pub is_told : ℕ → Bool
 is_told b = not (b == 10)
 
 module _ (names : List (List ℕ)) (readable : AreReadableNames names) where
-  single_term : (t : Term) → IsPrintedTerm names t → IsSingle (term_text names t)
-  single_term (Constant c) h = single_name (name_text names c) (readable.spelled c [] h)
-  single_term (Variable v) h = single_first 88 (decimal v) (λ e. omega arith) (single_number v h)
+  single_term : (t : Term) → IsSingle (term_text names t)
+  single_term (Constant c) = single_name_text names readable.spelled c
+  single_term (Variable v) = single_first 88 (decimal v) (λ e. omega arith) (single_number v)
 
-  pub single_terms : (ts : List Term) → All (IsPrintedTerm names) ts → IsSingle (terms_text names ts)
-  single_terms ts h =
+  pub single_terms : (ts : List Term) → IsSingle (terms_text names ts)
+  single_terms ts =
       single_first 40 (joined (codes ",") (term_text names) ts ++ 41 ∷ []) (λ e. omega arith)
       (single_both (joined (codes ",") (term_text names) ts) (41 ∷ [])
-      (single_joined (codes ",") (term_text names) ts (single_first 44 [] (λ e. omega arith) single_nothing) (λ t i. single_term t (All-contains (IsPrintedTerm names) ts t h i)))
+      (single_joined (codes ",") (term_text names) ts (single_first 44 [] (λ e. omega arith) single_nothing) (λ t i. single_term t))
       (single_first 41 [] (λ e. omega arith) single_nothing))
 
-  single_atom : (a : Atom) → IsPrintedAtom names a → IsSingle (atom_text names a)
-  single_atom a h = single_both (name_text names a.name) (terms_text names a.terms) (single_name (name_text names a.name) (readable.spelled a.name [] h.name)) (single_terms a.terms h.terms)
+  single_atom : (a : Atom) → IsSingle (atom_text names a)
+  single_atom a = single_both (name_text names a.name) (terms_text names a.terms) (single_name_text names readable.spelled a.name) (single_terms a.terms)
 
-  single_answers : (ts : List Term) → All (IsPrintedTerm names) ts → IsSingle (answers_text names ts)
-  single_answers [] h = single_nothing
-  single_answers (t ∷ ts) h = single_terms (t ∷ ts) h
+  single_answers : (ts : List Term) → IsSingle (answers_text names ts)
+  single_answers [] = single_nothing
+  single_answers (t ∷ ts) = single_terms (t ∷ ts)
 
-  pub single_query : (q : Query) → IsPrinted names q → IsSingle (numbered_text names q)
-  single_query q h =
+  pub single_query : (q : Query) → IsSingle (numbered_text names q)
+  single_query q =
       single_both (((codes "?" ++ answers_text names q.answers) ++ codes " :- ") ++ joined (codes ", ") (atom_text names) q.atoms) (codes ".")
       (single_both ((codes "?" ++ answers_text names q.answers) ++ codes " :- ") (joined (codes ", ") (atom_text names) q.atoms)
       (single_both (codes "?" ++ answers_text names q.answers) (codes " :- ")
-      (single_both (codes "?") (answers_text names q.answers) (single_run is_told (codes "?") refl refl) (single_answers q.answers h.answers))
+      (single_both (codes "?") (answers_text names q.answers) (single_run is_told (codes "?") refl refl) (single_answers q.answers))
       (single_run is_told (codes " :- ") refl refl))
-      (single_joined (codes ", ") (atom_text names) q.atoms (single_run is_told (codes ", ") refl refl) (λ a i. single_atom a (All-contains (IsPrintedAtom names) q.atoms a h.atoms i))))
+      (single_joined (codes ", ") (atom_text names) q.atoms (single_run is_told (codes ", ") refl refl) (λ a i. single_atom a)))
       (single_run is_told (codes ".") refl refl)

@@ -50,11 +50,11 @@ module _ (names : List (List ℕ)) (readable : AreReadableNames names) where
   abbrev lines : List Query → List ℕ
   lines union = lines_text (map (query_line names) union)
 
-  pub query_is_single : (q : Query) → IsPrintable names q → IsSingle (query_text names q)
-  query_is_single q h = single_query names readable (numbered_query q) (printed_query names q h)
+  pub query_is_single : (q : Query) → IsSingle (query_text names q)
+  query_is_single q = single_query names readable (numbered_query q)
 
-  pub query_is_line : (q : Query) → IsPrintable names q → IsLine (query_line names q)
-  query_is_line q h = record { inner = query_text names q; is = refl; single = (query_is_single q h).free }
+  pub query_is_line : (q : Query) → IsLine (query_line names q)
+  query_is_line q = record { inner = query_text names q; is = refl; single = (query_is_single q).free }
 
   -- a query by its line
   pub query_told : (p q : Query) → IsPrintable names p → IsPrintable names q → query_line names p ≡ query_line names q → numbered_query p ≡ numbered_query q
@@ -62,7 +62,7 @@ module _ (names : List (List ℕ)) (readable : AreReadableNames names) where
 
   lines_apart : (one two : List Query) (x y : List ℕ) → All (IsPrintable names) one → All (IsPrintable names) two → length one ≡ length two → lines one ++ x ≡ lines two ++ y →
       AreOne (map numbered_query one) (map numbered_query two) x y
-  lines_apart one two x y h k n e = counted_elements (query_line names) numbered_query (IsPrintable names) query_is_line query_told one two x y h k n e
+  lines_apart one two x y h k n e = counted_elements (query_line names) numbered_query (IsPrintable names) (λ q h. query_is_line q) query_told one two x y h k n e
 
   finished_shape : (union : List Query) (x : List ℕ) → finished_text names union ++ x ≡ codes "% finished\n" ++ (codes "% queries " ++ (decimal (length union) ++ 10 ∷ (lines union ++ x)))
   finished_shape union x =
@@ -111,9 +111,9 @@ module _ (names : List (List ℕ)) (readable : AreReadableNames names) where
   abbrev tuple_lines : List (List ℕ) → List ℕ
   tuple_lines tuples = lines_text (map (tuple_line names) tuples)
 
-  pub tuple_is_line : (tuple : List ℕ) → All (λ c. c < length names) tuple → IsLine (tuple_line names tuple)
-  tuple_is_line tuple h =
-      let text : IsSingle (tuple_text names tuple) = subst IsSingle (sym (tuple_is tuple)) (single_terms names readable (map Constant tuple) (constants_printed tuple h)) in
+  pub tuple_is_line : (tuple : List ℕ) → IsLine (tuple_line names tuple)
+  tuple_is_line tuple =
+      let text : IsSingle (tuple_text names tuple) = subst IsSingle (sym (tuple_is tuple)) (single_terms names readable (map Constant tuple)) in
       record { inner = codes "% " ++ tuple_text names tuple; is = refl; single = (single_both (codes "% ") (tuple_text names tuple) (single_run is_told (codes "% ") refl refl) text).free }
 
   -- a tuple by its line
@@ -127,7 +127,7 @@ module _ (names : List (List ℕ)) (readable : AreReadableNames names) where
   tuples_apart : (one two : List (List ℕ)) (x y : List ℕ) → All (All (λ c. c < length names)) one → All (All (λ c. c < length names)) two → length one ≡ length two →
       tuple_lines one ++ x ≡ tuple_lines two ++ y → AreOne one two x y
   tuples_apart one two x y h k n e =
-      let told = counted_elements (tuple_line names) (λ t. t) (All (λ c. c < length names)) tuple_is_line tuple_told one two x y h k n e in
+      let told = counted_elements (tuple_line names) (λ t. t) (All (λ c. c < length names)) (λ tuple h. tuple_is_line tuple) tuple_told one two x y h k n e in
       record { front = sym (map-id one) ∙ (told.front ∙ map-id two); rest = told.rest }
 
   answers_shape : (tuples : List (List ℕ)) (x : List ℕ) → lines_text (answer_lines names tuples) ++ x ≡ codes "% answers " ++ (decimal (length tuples) ++ 10 ∷ (tuple_lines tuples ++ x))

@@ -11,6 +11,9 @@ use Rattle.ucq_chase.specs.Names.{AreHeldAtoms, IsHeldQuery, IsHeldRule}
 use Rattle.ucq_reader.specs.declared.input.Asked.{Asked}
 use Rattle.ucq_reader.specs.Input.{InputValue, IsInput, HasNumbersOf}
 use Rattle.ucq_reader.specs.Made.{made}
+use Rattle.ucq_print.specs.declared.compared.Judged.{Judged}
+use Rattle.ucq_print.specs.declared.compared.Told.{Told}
+use Rattle.ucq_print.specs.Compared.{minimal_line, rule_line, within_line}
 use Rattle.ucq_print.specs.Texts.{answer_lines, answered_lines, answered_text, finished_lines, finished_text, line_feed, lines_text, rows_cut_lines, rows_cut_text, section_line, wide_cut_lines, wide_cut_text}
 
 -- ---- lines
@@ -239,6 +242,19 @@ abbrev pub HeadersAreNoAnswers : Type 0
 HeadersAreNoAnswers =
     (number : ℕ) (label : Option (List ℕ)) (rest other : List ℕ) (names : List (List ℕ)) (tuples : List (List ℕ)) →
     section_line number label ++ rest ≢ lines_text (answer_lines names tuples) ++ other
+
+-- A line of a section, such that no text that begins with it begins with the lines of answers.
+pub record StandsApart (line : List ℕ) : Type 0 where
+  pub is : IsLine line
+  pub none : ¬ BeginsASection line
+  pub apart : (rest other : List ℕ) (names : List (List ℕ)) (tuples : List (List ℕ)) → line ++ rest ≢ lines_text (answer_lines names tuples) ++ other
+
+-- the lines that compare queries under rules, and rules with each other, are such
+abbrev pub ComparingLinesStandApart : Type 0
+ComparingLinesStandApart =
+    ((query of : ℕ) (told : Told) → StandsApart (within_line query of told))
+    × ((names : List (List ℕ)) (query : Query) → AreReadableNames names → StandsApart (minimal_line names query))
+    × ((number : ℕ) (judged : Judged) → StandsApart (rule_line number judged))
 
 -- ---- inputs
 

@@ -1,5 +1,5 @@
 //! Laws of the texts, each the contract of a function that does nothing.
-ghost use Rattle.ucq_print.specs.Laws.{AnsweredTextTellsUnion, BeginningTellsUnion, CountedLinesAreTold, FinishedTextTellsUnion, HeaderIsLine, HeaderTells, HeadersAreNoAnswers, InputLabelsAreLines, InputNamesAreHeld, InputNamesAreReadable, LinesAreTold, MadeNamesAreHeld, RowsCutTextTellsRows, SectionsAreTold, StoredArePrintable, TextsAreSections, TextsDiffer, WholeLinesAreTold, WideCutTextTellsRows};
+ghost use Rattle.ucq_print.specs.Laws.{AnsweredTextTellsUnion, BeginningTellsUnion, ComparingLinesStandApart, CountedLinesAreTold, FinishedTextTellsUnion, HeaderIsLine, HeaderTells, HeadersAreNoAnswers, InputLabelsAreLines, InputNamesAreHeld, InputNamesAreReadable, LinesAreTold, MadeNamesAreHeld, RowsCutTextTellsRows, SectionsAreTold, StoredArePrintable, TextsAreSections, TextsDiffer, WholeLinesAreTold, WideCutTextTellsRows};
 
 /// Lines without inner line feeds are told from their join, and what follows too.
 pub fn lines_are_told()
@@ -43,12 +43,14 @@ pub fn header_tells()
 {}
 
 /// A header that stands behind whole lines in a text of sections is the header of one of them, and what follows begins with its
-/// lines and goes on with the later sections. For no line of a union, of its answers or of a cut begins as a header does. So
-/// what follows a union's lines, where no answers were asked for, is never taken for answers.
+/// lines and goes on with the later sections. For no line of a union, of its answers or of a cut begins as a header does, and
+/// neither does one that compares queries or rules. So what follows a union's lines, where no answers were asked for, is never
+/// taken for answers.
 pub fn sections_are_told()
     ensures told { SectionsAreTold }
     ensures texts { TextsAreSections }
     ensures apart { HeadersAreNoAnswers }
+    ensures comparing { ComparingLinesStandApart }
 {}
 
 /// The names of what files stand for are such that the finished text tells the union.

@@ -12,7 +12,7 @@ use Rattle.ucq_reader.specs.declared.input.Asked.{Asked}
 use Rattle.ucq_reader.specs.Meaning.{SymbolAsked}
 use Rattle.ucq_reader.specs.Input.{InputValue, IsAskedOf, IsInput, HasNumbersOf}
 use Rattle.ucq_reader.specs.Made.{made}
-use Rattle.ucq_print.specs.Laws.{AreReadableNames, ArePrintable, ArePrintableTuples, HeaderIsLine, HeadersAreNoAnswers, SectionsAreTold, TextsAreSections, TextsDiffer}
+use Rattle.ucq_print.specs.Laws.{AreReadableNames, ArePrintable, ArePrintableTuples, ComparingLinesStandApart, HeaderIsLine, HeadersAreNoAnswers, SectionsAreTold, TextsAreSections, TextsDiffer}
 use Rattle.ucq_print.specs.Texts.{lines_text, answer_lines, answered_text, atom_count, finished_text, summary_text}
 use Rattle.ucq_print.proofs.InputNames.{input_names}
 use Rattle.ucq_print.proofs.Unions.{answered_apart, answered_shape, beginning_apart}
@@ -29,13 +29,14 @@ use Rattle.ucq_outside.specs.Taken.{SinkChange, TookAll}
 use Rattle.ucq_run.specs.Parts.{section, section_of, PartText, AreTextsOf, IsSectionText, join, NoneIsCut, parts_in, parts_of}
 use Rattle.ucq_run.specs.Printed.{Prints}
 use Rattle.ucq_run.specs.Run.{HoldsFiles}
-use Rattle.ucq_run.specs.Laws.{AskForMade, AskForNoMode, BeginsWithAnswers, BeginsWithUnion, FinishedRunPrintsUnions, FinishedSectionsAgree, HasSection, IsFinishedRun, IsRunTaking, IsSectionOf, MadeRunsAgree, PrintedAnswersAreExact, PrintedUnionIsExact}
+use Rattle.ucq_run.specs.Laws.{AskForMade, BeginsWithAnswers, BeginsWithUnion, FinishedRunPrintsUnions, FinishedSectionsAgree, HasSection, IsFinishedRun, IsRunTaking, IsSectionOf, MadeRunsAgree, PrintedAnswersAreExact, PrintedUnionIsExact}
 use Rattle.ucq_run.proofs.Asking.{budget_within, made_is_plain}
 use Rattle.ucq_run.proofs.InputLimits.{few_queries, few_rules}
 use Rattle.ucq_print.proofs.InputLabels.{input_labels}
 use Rattle.ucq_run.proofs.OneProblem.{AreSameAsked, AreSameInput, answers_of_files, exact_of_asked, same_at, same_input, same_of_files}
 use Rattle.ucq_run.proofs.OneSize.{one_size, one_atom_count}
-use Rattle.ucq_run.proofs.SectionsTold.{HasOwn, IsEnd, IsOfFiles, has_section, section_begins, section_moves}
+use Rattle.ucq_run.proofs.FurtherLines.{BeginsNoAnswers}
+use Rattle.ucq_run.proofs.SectionsTold.{HasOwn, IsOfFiles, has_section, section_begins, section_moves}
 use Rattle.ucq_run.proofs.Unknowns.{answers_move, one_answers}
 use Rattle.ucq_run.proofs.Decided.{asked_told}
 
@@ -122,14 +123,6 @@ no_cut : TextsDiffer → (q : Question) (own after rest : List ℕ) (union : Lis
 no_cut differ q own after rest union (inl c) e = (differ q.names union q.budget 0 0 c.rows [] c.left rest after).0 (sym e ∙ ap (λ (l : List ℕ). l ++ after) c.printed)
 no_cut differ q own after rest union (inr c) e = (differ q.names union 0 c.row c.rule c.rows [] no_query rest after).1 (sym e ∙ ap (λ (l : List ℕ). l ++ after) c.printed)
 
--- no line of answers is nothing
-some_answers : (names tuples : List (List ℕ)) (rest : List ℕ) → [] ≡ lines_text (answer_lines names tuples) ++ rest → ⊥
-some_answers names tuples rest e = cc
-
-not_answers : HeadersAreNoAnswers → (names tuples : List (List ℕ)) (after rest : List ℕ) → IsEnd after → after ≡ lines_text (answer_lines names tuples) ++ rest → ⊥
-not_answers apart names tuples after rest (inl none) e = some_answers names tuples rest (sym none ∙ e)
-not_answers apart names tuples after rest (inr (number, label, more, is)) e = apart number label more rest names tuples (sym is ∙ e)
-
 module _ (differ : TextsDiffer) (C : Bool → Type 0) (settings : SettingsValue) (input : InputValue) (of : IsOfFiles settings input) (asked : Asked) (text : List ℕ) where
   abbrev question : Question
   question = question_of settings input asked.query
@@ -147,25 +140,25 @@ module _ (differ : TextsDiffer) (C : Bool → Type 0) (settings : SettingsValue)
   pub own_union : HasOwn C settings input asked text → (union : List Query) → BeginsWithUnion input.names text union → IsExact question.problem union
   own_union h union b = union_so h.cut h.own h.after h.is h.begins union b
 
-  answers_in : HeadersAreNoAnswers → (answers : Bool) (job : JobValue) (union other : List Query) (tuples : List (List ℕ)) (own after rest : List ℕ) → job ≡ files of.given →
-      ArePrintable input.names union → ArePrintable input.names other → ArePrintableTuples input.names tuples → IsPrintedIn (job_form answers job) question union own → IsEnd after →
+  answers_in : (answers : Bool) (job : JobValue) (union other : List Query) (tuples : List (List ℕ)) (own after rest : List ℕ) → job ≡ files of.given →
+      ArePrintable input.names union → ArePrintable input.names other → ArePrintableTuples input.names tuples → IsPrintedIn (job_form answers job) question union own → BeginsNoAnswers after →
       own ++ after ≡ answered_text input.names other tuples ++ rest → AreChaseAnswers input.names question.problem input.facts tuples
-  answers_in apart answers (make number) union other tuples own after rest e h k i printed ends same = absurd cc
-  answers_in apart true (files given) union other tuples own after rest e h k i (found, are, held, is) ends same =
+  answers_in answers (make number) union other tuples own after rest e h k i printed ends same = absurd cc
+  answers_in true (files given) union other tuples own after rest e h k i (found, are, held, is) ends same =
       let tells = answered_apart input.names of.readable union other found tuples after rest h k held i (ap (λ (l : List ℕ). l ++ after) (sym is) ∙ same) in
       subst (AreChaseAnswers input.names question.problem input.facts) tells.1 are
-  answers_in apart false (files given) union other tuples own after rest e h k i is ends same =
+  answers_in false (files given) union other tuples own after rest e h k i is ends same =
       let shape : answered_text input.names other tuples ++ rest ≡ finished_text input.names other ++ (lines_text (answer_lines input.names tuples) ++ rest) =
       ap (λ (l : List ℕ). l ++ rest) (answered_shape input.names of.readable other tuples) ∙ append_assoc (finished_text input.names other) (lines_text (answer_lines input.names tuples)) rest in
       let begins = beginning_apart input.names of.readable union other after (lines_text (answer_lines input.names tuples) ++ rest) h k
       (ap (λ (l : List ℕ). l ++ after) (sym is) ∙ (same ∙ shape)) in
-      absurd (not_answers apart input.names tuples after rest ends begins.rest)
+      absurd (ends input.names tuples rest begins.rest)
 
-  answers_so : HeadersAreNoAnswers → (cut : Bool) (own after : List ℕ) → IsSectionText question cut own → IsEnd after → text ≡ own ++ after → (union : List Query) (tuples : List (List ℕ)) →
+  answers_so : (cut : Bool) (own after : List ℕ) → IsSectionText question cut own → BeginsNoAnswers after → text ≡ own ++ after → (union : List Query) (tuples : List (List ℕ)) →
       BeginsWithAnswers input.names text union tuples → BeginsWithUnion input.names text union → AreChaseAnswers input.names question.problem input.facts tuples
-  answers_so apart true own after is ends e union tuples b u = absurd (no_cut differ question own after u.rest union is.cut (sym e ∙ u.begins))
-  answers_so apart false own after is ends e union tuples b u =
-      answers_in apart settings.answers settings.job is.union union tuples own after b.rest of.job is.printable b.printable b.printable_tuples is.printed ends (sym e ∙ b.begins)
+  answers_so true own after is ends e union tuples b u = absurd (no_cut differ question own after u.rest union is.cut (sym e ∙ u.begins))
+  answers_so false own after is ends e union tuples b u =
+      answers_in settings.answers settings.job is.union union tuples own after b.rest of.job is.printable b.printable b.printable_tuples is.printed ends (sym e ∙ b.begins)
 
   -- a text with answers begins with the union
   pub union_before : (union : List Query) (tuples : List (List ℕ)) → BeginsWithAnswers input.names text union tuples → BeginsWithUnion input.names text union
@@ -178,9 +171,9 @@ module _ (differ : TextsDiffer) (C : Bool → Type 0) (settings : SettingsValue)
   }
 
   -- and the answers with which it begins are those of the chase
-  pub own_answers : HeadersAreNoAnswers → HasOwn C settings input asked text → (union : List Query) (tuples : List (List ℕ)) → BeginsWithAnswers input.names text union tuples →
+  pub own_answers : HasOwn C settings input asked text → (union : List Query) (tuples : List (List ℕ)) → BeginsWithAnswers input.names text union tuples →
       AreChaseAnswers input.names question.problem input.facts tuples
-  own_answers apart h union tuples b = answers_so apart h.cut h.own h.after h.is h.ends h.begins union tuples b (union_before union tuples b)
+  own_answers h union tuples b = answers_so h.cut h.own h.after h.is h.ends h.begins union tuples b (union_before union tuples b)
 
 -- ---- the laws
 
@@ -191,9 +184,9 @@ record HasRead (call : Call) (status : ℕ) (text : List ℕ) (texts : List (Lis
   of : IsOfFiles taken.settings taken.input
 
 module _ (one : OneSettings) where
-  has_read : (call : Call) (status : ℕ) (text : List ℕ) (texts : List (List ℕ)) → (status ≡ 0) ⊎ (status ≡ 5) → HoldsFiles call texts → AskForNoMode call.words →
+  has_read : (call : Call) (status : ℕ) (text : List ℕ) (texts : List (List ℕ)) → (status ≡ 0) ⊎ (status ≡ 5) → HoldsFiles call texts →
       IsRunTaking call status text → HasRead call status text texts
-  has_read call status text texts ended told plain run =
+  has_read call status text texts ended told run =
       let t : WasTaken call status text = was_taken call status text ended run in
       let is : IsInput texts t.input = (asked_told one call t.settings t.input texts t.asked told).1 in
       record {
@@ -202,7 +195,6 @@ module _ (one : OneSettings) where
         of = record {
           given = told.names;
           job = job_named one call t.settings t.input texts t.asked told;
-          plain = plain t.settings t.asked.stand;
           readable = input_names texts t.input is;
           budget = (budget_within call.words t.settings t.asked.stand).high;
           rules = few_rules texts t.input is;
@@ -231,11 +223,11 @@ record HasText (call : Call) (status : ℕ) (text : List ℕ) (texts : List (Lis
   asks : AreSameAsked other asked
   own : HasOwn any_cut read.taken.settings read.taken.input other piece
 
-module _ (one : OneSettings) (told : SectionsAreTold) (sections : TextsAreSections) where
+module _ (one : OneSettings) (told : SectionsAreTold) (sections : TextsAreSections) (apart : HeadersAreNoAnswers) (comparing : ComparingLinesStandApart) where
   has_text : (call : Call) (status : ℕ) (text : List ℕ) (texts : List (List ℕ)) (input : InputValue) (number : ℕ) (asked : Asked) (piece : List ℕ) → (status ≡ 0) ⊎ (status ≡ 5) →
-      HoldsFiles call texts → AskForNoMode call.words → IsInput texts input → IsRunTaking call status text → HasSection input number asked text piece → HasText call status text texts input asked piece
-  has_text call status text texts input number asked piece ended held plain is run h =
-      let r : HasRead call status text texts = has_read one call status text texts ended held plain run in
+      HoldsFiles call texts → IsInput texts input → IsRunTaking call status text → HasSection input number asked text piece → HasText call status text texts input asked piece
+  has_text call status text texts input number asked piece ended held is run h =
+      let r : HasRead call status text texts = has_read one call status text texts ended held run in
       let back : AreSameInput input r.taken.input = same_of_files texts input r.taken.input is r.is in
       let (other, at, asks) = same_at input.queries r.taken.input.queries number asked back.queries h.query in
       let stands : HasSection r.taken.input number other (join r.taken.texts) piece = record {
@@ -248,32 +240,32 @@ module _ (one : OneSettings) (told : SectionsAreTold) (sections : TextsAreSectio
         same = same_of_files texts r.taken.input input r.is is;
         other = other;
         asks = turned asks;
-        own = section_begins sections any_cut r.taken.settings r.taken.input r.of r.taken.texts (λ k d l. tt) r.taken.are told number other piece stands;
+        own = section_begins sections apart comparing any_cut r.taken.settings r.taken.input r.of r.taken.texts (λ k d l. tt) r.taken.are told number other piece stands;
       }
 
   pub printed_union_is_exact : TextsDiffer → PrintedUnionIsExact
-  printed_union_is_exact differ call texts input text piece number asked union held plain is (status, ended, run) h begins =
-      let t : HasText call status text texts input asked piece = has_text call status text texts input number asked piece ended held plain is run h in
+  printed_union_is_exact differ call texts input text piece number asked union held is (status, ended, run) h begins =
+      let t : HasText call status text texts input asked piece = has_text call status text texts input number asked piece ended held is run h in
       let there : BeginsWithUnion t.read.taken.input.names piece union = subst (λ (names : List (List ℕ)). BeginsWithUnion names piece union) (sym t.same.names) begins in
       exact_of_asked t.read.taken.input input t.other asked union t.same.rules t.asks
       (own_union differ any_cut t.read.taken.settings t.read.taken.input t.read.of t.other piece t.own union there)
 
   pub finished_sections_agree : TextsDiffer → FinishedSectionsAgree
-  finished_sections_agree differ call other texts input text text_other piece section_other number asked xs ys held held_other plain plain_other is run run_other h h_other begins begins_other =
+  finished_sections_agree differ call other texts input text text_other piece section_other number asked xs ys held held_other is run run_other h h_other begins begins_other =
       exact_is_unique (problem_of input asked.query) xs ys
-      (printed_union_is_exact differ call texts input text piece number asked xs held plain is run h begins)
-      (printed_union_is_exact differ other texts input text_other section_other number asked ys held_other plain_other is run_other h_other begins_other)
+      (printed_union_is_exact differ call texts input text piece number asked xs held is run h begins)
+      (printed_union_is_exact differ other texts input text_other section_other number asked ys held_other is run_other h_other begins_other)
 
-  pub printed_answers_are_exact : TextsDiffer → HeadersAreNoAnswers → PrintedAnswersAreExact
-  printed_answers_are_exact differ apart call texts input text piece number asked union tuples held plain is (status, ended, run) h begins =
-      let t : HasText call status text texts input asked piece = has_text call status text texts input number asked piece ended held plain is run h in
+  pub printed_answers_are_exact : TextsDiffer → PrintedAnswersAreExact
+  printed_answers_are_exact differ call texts input text piece number asked union tuples held is (status, ended, run) h begins =
+      let t : HasText call status text texts input asked piece = has_text call status text texts input number asked piece ended held is run h in
       let a : InputValue = t.read.taken.input in
       let there : BeginsWithAnswers a.names piece union tuples = subst (λ (names : List (List ℕ)). BeginsWithAnswers names piece union tuples) (sym t.same.names) begins in
       let unions : BeginsWithUnion a.names piece union = union_before differ any_cut t.read.taken.settings a t.read.of t.other piece union tuples there in
       let exact : IsExact (problem_of a t.other.query) union = own_union differ any_cut t.read.taken.settings a t.read.of t.other piece t.own union unions in
       let exact_here : IsExact (problem_of input asked.query) union = exact_of_asked a input t.other asked union t.same.rules t.asks exact in
       let answers : AreChaseAnswers a.names (problem_of a t.other.query) a.facts tuples =
-      own_answers differ any_cut t.read.taken.settings a t.read.of t.other piece apart t.own union tuples there in
+      own_answers differ any_cut t.read.taken.settings a t.read.of t.other piece t.own union tuples there in
       (exact_here, answers_of_files texts a input (problem_of a t.other.query) (problem_of input asked.query) union tuples t.read.is is exact exact_here answers)
 
   -- the union of a piece that isn't cut
@@ -292,11 +284,11 @@ module _ (one : OneSettings) (told : SectionsAreTold) (sections : TextsAreSectio
       )
 
   pub finished_run_prints_unions : HeaderIsLine → FinishedRunPrintsUnions
-  finished_run_prints_unions line call texts input text number asked held plain is run at =
-      let r : HasRead call 0 text texts = has_read one call 0 text texts (inl refl) held plain run in
+  finished_run_prints_unions line call texts input text number asked held is run at =
+      let r : HasRead call 0 text texts = has_read one call 0 text texts (inl refl) held run in
       let same : AreSameInput r.taken.input input = same_of_files texts r.taken.input input r.is is in
       let (other, there, asks) = same_at input.queries r.taken.input.queries number asked (same_of_files texts input r.taken.input is r.is).queries at in
-      let (piece, stands, own) = has_section sections not_cut r.taken.settings r.taken.input r.of r.taken.texts (r.taken.has refl) r.taken.are line number other there in
+      let (piece, stands, own) = has_section sections apart comparing not_cut r.taken.settings r.taken.input r.of r.taken.texts (r.taken.has refl) r.taken.are line number other there in
       let (union, begins, exact) = finished_union r.taken.settings r.taken.input r.of other piece own in (
         piece,
         union,

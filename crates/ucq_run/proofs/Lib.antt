@@ -15,6 +15,7 @@ mod Answered
 mod Solved
 mod Decided
 mod InputLimits
+mod FurtherLines
 mod SectionsTold
 mod FilesRead
 mod OverFacts

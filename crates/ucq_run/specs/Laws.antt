@@ -6,7 +6,6 @@ use Rattle.ucq_reader.specs.declared.input.Asked.{Asked}
 use Rattle.ucq_reader.specs.Input.{InputValue, IsInput}
 use Rattle.ucq_print.specs.Laws.{ArePrintable, ArePrintableTuples, IsLine}
 use Rattle.ucq_print.specs.Texts.{answered_text, finished_text, lines_text, section_line}
-use Rattle.ucq_words.specs.declared.values.Mode.TheVariants.{Plain}
 use Rattle.ucq_words.specs.Settings.{SettingsValue, StandFor, make}
 use Rattle.ucq_run.specs.Inputs.{Call, problem_of}
 use Rattle.ucq_run.specs.Finished.{AreChaseAnswers}
@@ -14,10 +13,6 @@ use Rattle.ucq_outside.specs.Taken.{SinkChange}
 use Rattle.ucq_run.specs.Run.{IsRun, HoldsFiles}
 
 -- ---- runs
-
--- the words ask for no mode
-abbrev pub AskForNoMode : List (List ℕ) → Type 0
-AskForNoMode words = (settings : SettingsValue) → StandFor words settings → settings.mode ≡ Plain
 
 -- A run with this status, whose output tells that it took this text.
 pub record IsRunTaking (call : Call) (status : ℕ) (text : List ℕ) : Type 0 where
@@ -69,40 +64,36 @@ pub record BeginsWithAnswers (names : List (List ℕ)) (text : List ℕ) (union 
 
 -- ---- laws
 
--- In what a finished run over files without a mode prints, each query has a section, which begins with the finished text of an
--- exact union of its problem.
+-- In what a finished run over files prints, each query has a section, which begins with the finished text of an exact union of its
+-- problem.
 abbrev pub FinishedRunPrintsUnions : Type 0
 FinishedRunPrintsUnions =
     (call : Call) (texts : List (List ℕ)) (input : InputValue) (text : List ℕ) (number : ℕ) (asked : Asked) →
     HoldsFiles call texts →
-    AskForNoMode call.words →
     IsInput texts input →
     IsFinishedRun call text →
     slice_get input.queries number ≡ Some asked →
     (section : List ℕ) × (union : List Query) ×
     HasSection input number asked text section × BeginsWithUnion input.names section union × IsExact (problem_of input asked.query) union
 
--- In what a run without a mode prints, finished or cut, each list of queries over the files' names with whose finished text the
--- section of a query begins is an exact union of its problem.
+-- In what a run prints, finished or cut, each list of queries over the files' names with whose finished text the section of a query
+-- begins is an exact union of its problem.
 abbrev pub PrintedUnionIsExact : Type 0
 PrintedUnionIsExact =
     (call : Call) (texts : List (List ℕ)) (input : InputValue) (text section : List ℕ) (number : ℕ) (asked : Asked) (union : List Query) →
     HoldsFiles call texts →
-    AskForNoMode call.words →
     IsInput texts input →
     IsWholeRun call text →
     HasSection input number asked text section →
     BeginsWithUnion input.names section union →
     IsExact (problem_of input asked.query) union
 
--- So two finished sections of one query in runs without a mode over the same files print unions that are equal up to renaming.
+-- So two finished sections of one query in runs over the same files print unions that are equal up to renaming.
 abbrev pub FinishedSectionsAgree : Type 0
 FinishedSectionsAgree =
     (one two : Call) (texts : List (List ℕ)) (input : InputValue) (text_one text_two section_one section_two : List ℕ) (number : ℕ) (asked : Asked) (xs ys : List Query) →
     HoldsFiles one texts →
     HoldsFiles two texts →
-    AskForNoMode one.words →
-    AskForNoMode two.words →
     IsInput texts input →
     IsWholeRun one text_one →
     IsWholeRun two text_two →
@@ -112,13 +103,12 @@ FinishedSectionsAgree =
     BeginsWithUnion input.names section_two ys →
     IsSameUnion xs ys
 
--- Where a section of a run without a mode begins with the text of a union with answers, that union is exact, and these are the
--- answers of the chase over the facts, whatever input the files stand for: the numbers of unknown values are free.
+-- Where a section begins with the text of a union with answers, that union is exact, and these are the answers of the chase over
+-- the facts, whatever input the files stand for: the numbers of unknown values are free.
 abbrev pub PrintedAnswersAreExact : Type 0
 PrintedAnswersAreExact =
     (call : Call) (texts : List (List ℕ)) (input : InputValue) (text section : List ℕ) (number : ℕ) (asked : Asked) (union : List Query) (tuples : List (List ℕ)) →
     HoldsFiles call texts →
-    AskForNoMode call.words →
     IsInput texts input →
     IsWholeRun call text →
     HasSection input number asked text section →

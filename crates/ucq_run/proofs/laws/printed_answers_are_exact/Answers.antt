@@ -3,4 +3,4 @@ use Rattle.ucq_run.proofs.laws.printed_answers_are_exact.Goals as goal
 
 pub returns : goal.returns
 returns c =
-    printed_answers_are_exact c.one_settings.ensures c.sections_are_told.ensures.told c.sections_are_told.ensures.texts c.texts_differ.ensures c.sections_are_told.ensures.apart
+    printed_answers_are_exact c.one_settings.ensures c.sections_are_told.ensures.told c.sections_are_told.ensures.texts c.sections_are_told.ensures.apart c.sections_are_told.ensures.comparing c.texts_differ.ensures
