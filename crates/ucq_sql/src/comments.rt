@@ -1,10 +1,27 @@
 //! Comments: before the statement of a query, and in place of one that was cut.
-ghost use Rattle.std.specs.Prelude.{◌≡◌, ◌++◌, codes, decimal, IfOk, OnOk, option_map};
-ghost use Rattle.ucq_sql.specs.Comments.{label_text, query_comment as query_comment_of, rows_cut_comment as rows_cut_comment_of, wide_cut_comment as wide_cut_comment_of};
+ghost use Rattle.std.specs.Prelude.{◌≡◌, ◌++◌, codes, decimal, IfOk, OnOk, option_map, map};
+ghost use Rattle.ucq_sql.specs.Comments.{label_text, plain_byte as plain_byte_of, query_comment as query_comment_of, rows_cut_comment as rows_cut_comment_of, wide_cut_comment as wide_cut_comment_of};
 
 use crate::quotes::push_number;
 use std::alloc::Global;
 use ucq_terms::NoMemory;
+
+/// A space in place of a control byte.
+fn plain_byte(byte: u8) -> u8
+    ensures { result ≡ plain_byte_of byte }
+{
+    if byte < 32 { b' ' } else { byte }
+}
+
+/// Adds the bytes, with a space in place of each control byte.
+fn push_plain(line: &mut Vec<u8>, bytes: &[u8]) -> Result<(), NoMemory>
+    ensures { OnOk result (line.new.items ≡ line.old.items ++ map plain_byte_of bytes.now) }
+{
+    for byte in bytes {
+        line.push(plain_byte(*byte))?;
+    }
+    Ok(())
+}
 
 /// Adds a space and the label, if there is one.
 fn push_label(line: &mut Vec<u8>, label: Option<&[u8]>) -> Result<(), NoMemory>
@@ -14,13 +31,14 @@ fn push_label(line: &mut Vec<u8>, label: Option<&[u8]>) -> Result<(), NoMemory>
 {
     if let Some(label) = label {
         line.push(b' ')?;
-        line.extend_from_slice(label)?;
+        push_plain(line, label)?;
     }
     Ok(())
 }
 
-/// The line before a query's statement: the query's number, from 0, and its label where it has one. Where the label has no line
-/// feed, all of it is a comment (`laws::lines_are_comments`). The only error is want of memory.
+/// The line before a query's statement: the query's number, from 0, and its label where it has one. A control
+/// byte of the label is written as a space, so all of the line is a comment (`laws::lines_are_comments`). The only error is want of
+/// memory.
 pub fn query_comment(alloc: Global, number: u32, label: Option<&[u8]>) -> Result<Vec<u8>, NoMemory>
     ensures { IfOk result (λ line.
         line.items ≡ query_comment_of number (option_map (λ l. l.now) label.entry)) }

@@ -40,8 +40,7 @@ pub fn lines_are_told()
     ensures facts { FactsLinesTellFacts }
 {}
 
-/// Each line of `query_comment`, `rows_cut_comment` and `wide_cut_comment` is a comment to its end, where the label has no line
-/// feed.
+/// Each line of `query_comment`, `rows_cut_comment` and `wide_cut_comment` is a comment to its end, whatever the label's bytes.
 pub fn lines_are_comments()
     ensures { LinesAreComments }
 {}
